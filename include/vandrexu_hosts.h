@@ -5,9 +5,9 @@
  * has a submission queue, and one call at a time, which somebody polls. Handles of one disk may be used by unlike threads
  * at once, each by one at a time.
  *
- * Two hosts that have unlike submission queues of one completion queue take each other's completions: give each host a
- * completion queue of its own, as with `cqs` equal to `pairs`. What a call is answered is then proved to be true of the
- * history of the controller. */
+ * No two hosts of a disk have one number, or submission queues of one completion queue. The second is refused, also
+ * where the first was freed. So a disk has at most `cqs` hosts, and no host uses another one's queues. What a call is
+ * answered is then proved to be true of the history of the controller. */
 #ifndef VANDREXU_HOSTS_H
 #define VANDREXU_HOSTS_H
 
@@ -27,12 +27,15 @@ enum vandrexu_host_status {
     VANDREXU_CALL_FAILED = 44,    /* a completion with another status than those that a reply tells */
     VANDREXU_CALL_BUSY = 45,      /* another handle of the disk had the controller */
     VANDREXU_CALL_NO_MEMORY = 46, /* memory was refused */
+    VANDREXU_CALL_SLOT_AREA = 47, /* a Write, a Write Zeroes or a Compare and Write that touches a slot of the disk */
     /* of these calls alone */
-    VANDREXU_UNFINISHED = 113, /* what was fetched before isn't finished */
-    VANDREXU_NO_HOST = 114,    /* as many hosts were made as the disk was made for */
-    VANDREXU_BAD_NUMBER = 115, /* a host has no number 0 */
-    VANDREXU_IN_CALL = 116,    /* the host has a call */
-    VANDREXU_NO_CALL = 117     /* the host has no call */
+    VANDREXU_UNFINISHED = 113,  /* what was fetched before isn't finished */
+    VANDREXU_NO_HOST = 114,     /* as many hosts were made as the disk was made for */
+    VANDREXU_BAD_NUMBER = 115,  /* a host has no number 0 */
+    VANDREXU_IN_CALL = 116,     /* the host has a call */
+    VANDREXU_NO_CALL = 117,     /* the host has no call */
+    VANDREXU_USED_NUMBER = 124, /* a host of the disk had the number before, also one that was freed */
+    VANDREXU_USED_QUEUE = 125   /* one had the completion queue of this submission queue before */
 };
 
 typedef struct vandrexu_disk {
@@ -50,8 +53,8 @@ typedef struct vandrexu_host {
 
 /* ---- A disk ---- */
 
-/* 0, and the handle owns a controller with no history and blocks of zeros, of which so many hosts can be made; 11, 21 to
- * 30, VANDREXU_IN_USE. */
+/* 0, and the handle owns a controller with no history, blocks of zeros and no slots, of which so many hosts can be
+ * made; 11, 21 to 30, VANDREXU_IN_USE. */
 uint32_t vandrexu_disk_new(const vandrexu_config *config, uint16_t hosts, vandrexu_disk *disk);
 
 /* Frees it, and leaves the handle zeros. Hosts that were made of it stay, and the controller with them: but nobody serves
@@ -72,17 +75,17 @@ uint32_t vandrexu_disk_task(vandrexu_disk *disk);
 
 /* ---- A host ---- */
 
-/* 0, and the host's handle owns a host of this number, not 0, with a driver on this submission queue; VANDREXU_NO_QUEUE,
- * VANDREXU_NO_HOST, VANDREXU_BAD_NUMBER, 11, VANDREXU_IN_USE. No other host of the disk should have the number or the
- * queue. */
+/* 0, and the host's handle owns a host of this number, not 0, with a driver on this submission queue. Else the first
+ * that holds of VANDREXU_IN_USE, VANDREXU_NO_HANDLE, VANDREXU_BAD_NUMBER, VANDREXU_NO_QUEUE, VANDREXU_USED_NUMBER and
+ * VANDREXU_USED_QUEUE; or 11, or VANDREXU_NO_HOST. */
 uint32_t vandrexu_host_new(vandrexu_disk *disk, uint32_t number, uint16_t queue, vandrexu_host *host);
 
 /* Frees it, and leaves the handle zeros; a call that isn't answered is forgotten, and its pass isn't given back. Nothing
  * is done to one that owns nothing. */
 void vandrexu_host_free(vandrexu_host *host);
 
-/* Each begins a call: its entries are published. 41 to 43, 45 and 46, and then nothing was; VANDREXU_IN_CALL. Data is 512
- * bytes a block, and is copied. */
+/* Each begins a call: its entries are published. The first that holds of VANDREXU_IN_CALL, 41, 42 and 47, else 43, 45
+ * or 46, and then nothing was. Data is 512 bytes a block, and is copied. Slots are read and compared as any block. */
 uint32_t vandrexu_host_read(vandrexu_host *host, uint64_t lba, uint32_t blocks);
 uint32_t vandrexu_host_write_zeroes(vandrexu_host *host, uint64_t lba, uint32_t blocks);
 uint32_t vandrexu_host_write(vandrexu_host *host, uint64_t lba, const uint8_t *data, size_t length);

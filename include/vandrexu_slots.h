@@ -1,10 +1,11 @@
 /* Vandrexu for C: slots of a controller in memory, claimed, released and taken over by the fused Compare and Write.
  *
  * Link libvandrexu_c.a. What vandrexu.h and vandrexu_hosts.h say of every call, of handles, of disks and of the numbers
- * that calls answer is so here too. A slot is a lock: one block of a disk, which holds zeros while nobody has it, and else
- * the name of who has it: the number of a host, and a serial that the host uses once. A slot host is a host that claims
- * slots and releases them, and takes over those of a host that died; docs/SLOTS.md says by which rules. Like any host it has
- * a submission queue, and one call at a time, which somebody polls.
+ * that calls answer is so here too. A slot is a lock: one block of a disk, which holds zeros while nobody has it, and
+ * else the name of who has it: the number of a host, and a serial that the host uses once. A disk is made with its
+ * slots, and only the calls below write there. A slot host is a host that claims slots and releases them, and takes
+ * over those of a host that died; docs/SLOTS.md says by which rules. Like any host it has a submission queue, and one
+ * call at a time, which somebody polls.
  *
  * What a host has at a slot is kept in its handle. Where the handle is freed, the slot stays held by its name. */
 #ifndef VANDREXU_SLOTS_H
@@ -35,12 +36,14 @@ typedef struct vandrexu_slot_host {
 
 #define VANDREXU_SLOT_HOST_NONE {0, 0}
 
-/* 0, and the host's handle owns a host of this number, not 0, with a driver on this submission queue, and so many slots
- * from block `first` on: slot i is block first + i. VANDREXU_BAD_AREA, and the numbers of vandrexu_host_new. All hosts of a
- * disk should have the same slots, and no two of them, of either kind, the same number or queue; no other call should write
- * to the blocks of slots. */
-uint32_t vandrexu_slot_host_new(vandrexu_disk *disk, uint32_t number, uint16_t queue, uint64_t first, uint32_t count,
-                                vandrexu_slot_host *host);
+/* As vandrexu_disk_new, but with so many slots from block `first` on: slot i is block first + i. VANDREXU_BAD_AREA,
+ * whatever the configuration and the handle are; else the numbers of vandrexu_disk_new. */
+uint32_t vandrexu_slot_disk_new(const vandrexu_config *config, uint16_t hosts, uint64_t first, uint32_t count,
+                                vandrexu_disk *disk);
+
+/* As vandrexu_host_new, and the host's slots are those of the disk. VANDREXU_BAD_AREA where it has none: that is looked
+ * at behind VANDREXU_NO_HANDLE. What a host of either kind has used, no host of the other kind gets. */
+uint32_t vandrexu_slot_host_new(vandrexu_disk *disk, uint32_t number, uint16_t queue, vandrexu_slot_host *host);
 
 /* Frees it, and leaves the handle zeros. What the host has stays held, and a call that isn't answered is forgotten: who
  * knows that the host is gone may take its slots over. Nothing is done to one that owns nothing. */
@@ -75,7 +78,7 @@ enum vandrexu_slot_reply_kind {
     VANDREXU_SLOT_RELEASED = 4, /* nobody has it by this host's name */
     VANDREXU_SLOT_FREE = 5,     /* of the question who holds it: nobody */
     VANDREXU_SLOT_OF_NAME = 6,  /* whoever has the name beside it */
-    VANDREXU_SLOT_FOREIGN = 7,  /* its block is neither zeros nor a name */
+    VANDREXU_SLOT_FOREIGN = 7,  /* its block is neither zeros nor a name, which no call brings about */
     VANDREXU_SLOT_FAILED = 8    /* with the status beside it */
 };
 

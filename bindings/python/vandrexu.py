@@ -68,6 +68,7 @@ class Status(IntEnum):
     CALL_FAILED = 44
     CALL_BUSY = 45
     CALL_NO_MEMORY = 46
+    CALL_SLOT_AREA = 47
     CALL_NO_SERIAL = 48
     NO_HANDLE = 101
     IN_USE = 102
@@ -92,6 +93,8 @@ class Status(IntEnum):
     TOOK_OVER = 121
     BAD_NAME = 122
     BAD_AREA = 123
+    USED_NUMBER = 124
+    USED_QUEUE = 125
 
 
 WORDS: dict[Status, str] = {
@@ -124,6 +127,7 @@ WORDS: dict[Status, str] = {
     Status.CALL_FAILED: "the call failed",
     Status.CALL_BUSY: "another handle of the disk had the controller, for a call",
     Status.CALL_NO_MEMORY: "no memory for a call",
+    Status.CALL_SLOT_AREA: "the call would write to a slot",
     Status.CALL_NO_SERIAL: "the host has used the last serial",
     Status.NO_HANDLE: "the handle owns nothing",
     Status.IN_USE: "the handle owns something already",
@@ -148,6 +152,8 @@ WORDS: dict[Status, str] = {
     Status.TOOK_OVER: "the host has begun a takeover, and claims nothing any more",
     Status.BAD_NAME: "the name has a zero in it, or is of the host itself",
     Status.BAD_AREA: "there would be no slot, or one behind block 65,535",
+    Status.USED_NUMBER: "a host of the disk had the number before",
+    Status.USED_QUEUE: "a host of the disk had the completion queue before",
 }
 """What each status says."""
 
@@ -192,11 +198,11 @@ class Busy(Error):
 
 
 class CallRefused(Error):
-    """A host's call isn't begun: statuses 41 to 43, and 48."""
+    """A host's call isn't begun: statuses 41 to 43, 47 and 48."""
 
 
 class SlotRefused(Error):
-    """A slot host isn't made, or its call about a slot isn't begun: statuses 118 to 123."""
+    """A disk with slots or a slot host isn't made, or a call about a slot isn't begun: statuses 118 to 123."""
 
 
 class NoHandle(Error):
@@ -236,7 +242,7 @@ _ERRORS = {
     Status.NOT_LEGAL: NotLegal, Status.NOT_EXPLAINED: NotExplained, Status.BAD_HISTORY: BadHistory,
     Status.OTHER_CONFIG: OtherConfig, Status.GAVE_UP: GaveUp, Status.BUSY: Busy, Status.CALL_BUSY: Busy,
     Status.CALL_NO_MEMORY: NoMemory, Status.CALL_LENGTH: CallRefused, Status.CALL_TOO_LONG: CallRefused,
-    Status.CALL_NO_ROOM: CallRefused, Status.CALL_NO_SERIAL: CallRefused,
+    Status.CALL_NO_ROOM: CallRefused, Status.CALL_SLOT_AREA: CallRefused, Status.CALL_NO_SERIAL: CallRefused,
 }
 
 
@@ -374,7 +380,8 @@ _ARGUMENTS = {
     "vandrexu_host_compare_and_write": [_Host, c_uint64, c_char_p, c_size_t, c_char_p, c_size_t],
     "vandrexu_host_poll": [_Host, POINTER(RawReply)],
     "vandrexu_host_data": [_Host, _Bytes, c_size_t, POINTER(c_size_t)],
-    "vandrexu_slot_host_new": [_Disk, c_uint32, c_uint16, c_uint64, c_uint32, _SlotHost],
+    "vandrexu_slot_disk_new": [POINTER(RawConfig), c_uint16, c_uint64, c_uint32, _Disk],
+    "vandrexu_slot_host_new": [_Disk, c_uint32, c_uint16, _SlotHost],
     "vandrexu_slot_host_free": [_SlotHost],
     "vandrexu_slot_claim": [_SlotHost, c_uint32],
     "vandrexu_slot_claim_any": [_SlotHost],
@@ -911,8 +918,9 @@ class Disk(_Handle):
     """A controller that hosts share. It is served by this handle, and freed where its `with` ends, by `close`, or where
     it is forgotten; hosts that were made of it stay, but nobody serves them then.
 
-    Nothing happens by itself: what a host asks for waits until the disk serves its submission queue. Two hosts take
-    each other's completions where their queues have one completion queue: give each its own, as `pairs` alone does.
+    Nothing happens by itself: what a host asks for waits until the disk serves its submission queue. Each host has a
+    number and a completion queue that no host of the disk had before. Where `cqs` is below `pairs`, some submission
+    queues share a completion queue, and only one of these gets a host.
 
     >>> with Disk(Config(pairs=2), 2) as disk, disk.host(1, 1) as one, disk.host(2, 2) as two:
     ...     one.compare_and_write(3, bytes(512), b"\\xA1" * 512)
@@ -924,20 +932,37 @@ class Disk(_Handle):
     """
     _new, _free, _raw_type = "vandrexu_disk_new", "vandrexu_disk_free", RawDisk
 
-    def __init__(self, config: Config, hosts: int):
-        """A disk with no history, whose blocks are zeros, of which so many hosts can be made."""
-        super().__init__(config, _fits(hosts, 16))
+    def __init__(self, config: Config, hosts: int, *, slots: tuple[int, int] | None = None):
+        """A disk with no history, whose blocks are zeros, of which so many hosts can be made. With `slots=(first,
+        count)` it has so many slots, and slot i is block `first` + i; without, it has none.
+
+        >>> Disk(Config(), 1, slots=(65535, 2))
+        Traceback (most recent call last):
+        vandrexu.SlotRefused: there would be no slot, or one behind block 65,535
+        """
+        self.slots = slots
+        if slots is None:
+            super().__init__(config, _fits(hosts, 16))
+        else:
+            first, count = slots
+            self._new = "vandrexu_slot_disk_new"
+            super().__init__(config, _fits(hosts, 16), _fits(first, 64), _fits(count, 32))
 
     def host(self, number: int, queue: int) -> Host:
-        """A host of this number, with a driver on this submission queue. No other host should have the number or the
-        queue."""
+        """A host of this number, with a driver on this submission queue. It isn't made where a host of the disk, of
+        either kind, had the number or the queue's completion queue before, also one that is closed.
+
+        >>> with Disk(Config(pairs=2), 2) as disk, disk.host(1, 1) as one:
+        ...     disk.host(1, 2)
+        Traceback (most recent call last):
+        vandrexu.Error: a host of the disk had the number before
+        """
         return Host(self, number, queue)
 
-    def slot_host(self, number: int, queue: int, first: int, count: int) -> SlotHost:
-        """A slot host of this number, with a driver on this submission queue, and `count` slots from block `first` on:
-        slot i is block `first` + i. All slot hosts of a disk should have the same slots. No two hosts of it, of either
-        kind, should have the same number or queue. No other call should write to the blocks of slots."""
-        return SlotHost(self, number, queue, first, count)
+    def slot_host(self, number: int, queue: int) -> SlotHost:
+        """A slot host of this number, with a driver on this submission queue, for the slots of the disk. It isn't made
+        where `host` would make none, nor where the disk has no slots."""
+        return SlotHost(self, number, queue)
 
     def serve(self, queue: int) -> None:
         """Fetches the next command of a submission queue, or a fused pair, and makes all that it has to do. Where
@@ -985,11 +1010,21 @@ class Reply(NamedTuple):
     status: tuple[int, int] | None = None
 
 
-class Host(_Handle):
+class _HostHandle(_Handle):
+    """A host of a Disk, of either kind."""
+
+    def __init__(self, disk: Disk, number: int, queue: int):
+        _fits(number, 32), _fits(queue, 16)
+        self.config, self.number, self.queue = disk.config, number, queue
+        with disk._turn:
+            self._hold(byref(disk._raw), number, queue)
+
+
+class Host(_HostHandle):
     """A host of a Disk, with a driver, and one call at a time. It is freed where its `with` ends, by `close`, or where
     it is forgotten.
 
-    A call is begun, and then polled until it is over.
+    A call is begun, and then polled until it is over. A call that would write to a slot of the disk isn't begun.
 
     >>> with Disk(Config(), 1) as disk, disk.host(1, 1) as host:
     ...     host.write(3, b"\\xA1" * 1024)
@@ -1008,12 +1043,6 @@ class Host(_Handle):
     True
     """
     _new, _free, _raw_type = "vandrexu_host_new", "vandrexu_host_free", RawHost
-
-    def __init__(self, disk: Disk, number: int, queue: int):
-        _fits(number, 32), _fits(queue, 16)
-        self.config, self.number, self.queue = disk.config, number, queue
-        with disk._turn:
-            self._hold(byref(disk._raw), number, queue)
 
     def read(self, lba: int, blocks: int = 1) -> None:
         """Begins to read so many blocks."""
@@ -1060,7 +1089,7 @@ class Host(_Handle):
 
 class SlotReplyKind(IntEnum):
     """What became of a slot host's call. HELD and TAKEN are of a claim and of a takeover, RELEASED of a release, and
-    FREE, OF_NAME and FOREIGN of the question who holds a slot."""
+    FREE, OF_NAME and FOREIGN of the question who holds a slot. No call writes what is FOREIGN."""
     PENDING = 1
     HELD = 2
     TAKEN = 3
@@ -1086,7 +1115,7 @@ class SlotReply(NamedTuple):
     status: tuple[int, int] | None = None
 
 
-class SlotHost(_Handle):
+class SlotHost(_HostHandle):
     """A host of a Disk that claims slots and releases them, with a driver, and one call at a time. It is freed where
     its `with` ends, by `close`, or where it is forgotten. Its slots then stay held by their names, and another host may
     take them over.
@@ -1099,8 +1128,8 @@ class SlotHost(_Handle):
     ...     while (reply := host.poll()).kind == SlotReplyKind.PENDING:
     ...         pass
     ...     return reply
-    >>> disk = Disk(Config(pairs=2), 2)
-    >>> one, two = disk.slot_host(1, 1, 2, 4), disk.slot_host(2, 2, 2, 4)
+    >>> disk = Disk(Config(pairs=2), 2, slots=(2, 4))
+    >>> one, two = disk.slot_host(1, 1), disk.slot_host(2, 2)
     >>> one.claim(0)
     >>> over(disk, one)
     SlotReply(kind=<SlotReplyKind.HELD: 2>, slot=0, name=None, status=None)
@@ -1120,12 +1149,6 @@ class SlotHost(_Handle):
     vandrexu.SlotRefused: the host has begun a takeover, and claims nothing any more
     """
     _new, _free, _raw_type = "vandrexu_slot_host_new", "vandrexu_slot_host_free", RawSlotHost
-
-    def __init__(self, disk: Disk, number: int, queue: int, first: int, count: int):
-        _fits(number, 32), _fits(queue, 16), _fits(first, 64), _fits(count, 32)
-        self.config, self.number, self.queue, self.first, self.count = disk.config, number, queue, first, count
-        with disk._turn:
-            self._hold(byref(disk._raw), number, queue, first, count)
 
     def claim(self, slot: int) -> None:
         """Begins to claim a slot: to swap zeros for the host's next name."""

@@ -38,9 +38,9 @@ int main(void)
     vandrexu_disk disk = VANDREXU_DISK_NONE;
     vandrexu_slot_host one = VANDREXU_SLOT_HOST_NONE, two = VANDREXU_SLOT_HOST_NONE;
     vandrexu_slot_reply reply;
-    if (vandrexu_disk_new(&config, 2, &disk) != VANDREXU_DONE
-        || vandrexu_slot_host_new(&disk, 1, 1, FIRST, COUNT, &one) != VANDREXU_DONE
-        || vandrexu_slot_host_new(&disk, 2, 2, FIRST, COUNT, &two) != VANDREXU_DONE)
+    if (vandrexu_slot_disk_new(&config, 2, FIRST, COUNT, &disk) != VANDREXU_DONE
+        || vandrexu_slot_host_new(&disk, 1, 1, &one) != VANDREXU_DONE
+        || vandrexu_slot_host_new(&disk, 2, 2, &two) != VANDREXU_DONE)
         return 1;
 
     for (uint32_t slot = 0; slot < 2; slot++) {

@@ -1,4 +1,5 @@
 /* Calls each function of vandrexu_hosts.h, with each of its answers. Exits with 1 at the first that isn't as it should be.
+ * What is answered to a host of a disk with slots is in slots.c.
  *
  * Compiled with REFUSES it has a heap of its own in place of heap.c, refuses each allocation of a run in turn, and wants
  * that to be told and nothing to be lost. */
@@ -57,6 +58,7 @@ static void nothing(void)
     WANT(vandrexu_disk_fetch(&disk, 1) == VANDREXU_NO_HANDLE);
     WANT(vandrexu_disk_task(&disk) == VANDREXU_NO_HANDLE);
     WANT(vandrexu_host_new(&disk, 1, 1, &host) == VANDREXU_NO_HANDLE);
+    WANT(vandrexu_host_new(&disk, 0, 0, &host) == VANDREXU_NO_HANDLE);
     WANT(vandrexu_host_read(&host, 0, 1) == VANDREXU_NO_HANDLE);
     WANT(vandrexu_host_write(&host, 0, zeros, 512) == VANDREXU_NO_HANDLE);
     WANT(vandrexu_host_write_zeroes(&host, 0, 1) == VANDREXU_NO_HANDLE);
@@ -69,21 +71,27 @@ static void nothing(void)
     WANT(disk.at == NULL && disk.live == 0 && host.at == NULL && host.live == 0);
 }
 
-/* What a disk and its hosts are refused for. */
+/* What a disk and its hosts are refused for; of two causes the first. */
 static void made(void)
 {
     vandrexu_config bad = config;
-    vandrexu_disk disk = VANDREXU_DISK_NONE;
+    vandrexu_disk disk = VANDREXU_DISK_NONE, none = VANDREXU_DISK_NONE;
     vandrexu_host one = VANDREXU_HOST_NONE, two = VANDREXU_HOST_NONE;
     bad.cqs = 3;
     WANT(vandrexu_disk_new(&bad, 1, &disk) == VANDREXU_BAD_CQS && disk.live == 0);
     WANT(vandrexu_disk_new(&config, 1, &disk) == VANDREXU_DONE);
     WANT(vandrexu_disk_new(&config, 1, &disk) == VANDREXU_IN_USE);
     WANT(vandrexu_host_new(&disk, 0, 1, &one) == VANDREXU_BAD_NUMBER);
+    WANT(vandrexu_host_new(&disk, 0, 3, &one) == VANDREXU_BAD_NUMBER);
     WANT(vandrexu_host_new(&disk, 1, 0, &one) == VANDREXU_NO_QUEUE);
     WANT(vandrexu_host_new(&disk, 1, 3, &one) == VANDREXU_NO_QUEUE && one.live == 0);
     WANT(vandrexu_host_new(&disk, 1, 1, &one) == VANDREXU_DONE);
     WANT(vandrexu_host_new(&disk, 1, 1, &one) == VANDREXU_IN_USE);
+    WANT(vandrexu_host_new(&none, 0, 0, &one) == VANDREXU_IN_USE);
+    WANT(vandrexu_host_new(&disk, 1, 3, &two) == VANDREXU_NO_QUEUE);
+    WANT(vandrexu_host_new(&disk, 1, 1, &two) == VANDREXU_USED_NUMBER);
+    WANT(vandrexu_host_new(&disk, 1, 2, &two) == VANDREXU_USED_NUMBER);
+    WANT(vandrexu_host_new(&disk, 2, 1, &two) == VANDREXU_USED_QUEUE);
     WANT(vandrexu_host_new(&disk, 2, 2, &two) == VANDREXU_NO_HOST && two.live == 0);
     vandrexu_host_free(&one);
     vandrexu_host_free(&one);
@@ -93,6 +101,35 @@ static void made(void)
     WANT(vandrexu_host_new(&disk, 1, 1, &one) == VANDREXU_NO_HOST);
     vandrexu_disk_free(&disk);
     WANT(disk.at == NULL && disk.live == 0 && one.at == NULL && one.live == 0);
+}
+
+/* A number and a completion queue are one host's, also once it was freed. */
+static void used(void)
+{
+    /* The submission queues 1 and 3 have completion queue 1, and 2 and 4 have 2. */
+    const vandrexu_config shared = {8, 1, 1, 0, 0, 4, 4, 4, 8, 2};
+    vandrexu_disk disk = VANDREXU_DISK_NONE;
+    vandrexu_host one = VANDREXU_HOST_NONE, two = VANDREXU_HOST_NONE;
+    WANT(vandrexu_disk_new(&shared, 2, &disk) == VANDREXU_DONE);
+    WANT(vandrexu_host_new(&disk, UINT32_MAX, 3, &one) == VANDREXU_DONE);
+    WANT(vandrexu_host_write(&one, 0, zeros, 512) == VANDREXU_DONE);
+    serve(&disk, 3);
+    over(&one, VANDREXU_REPLY_WRITTEN);
+    for (int freed = 0; freed < 2; freed++) {
+        for (uint16_t queue = 1; queue <= 4; queue++)
+            WANT(vandrexu_host_new(&disk, UINT32_MAX, queue, &two) == VANDREXU_USED_NUMBER);
+        WANT(vandrexu_host_new(&disk, 1, 1, &two) == VANDREXU_USED_QUEUE);
+        WANT(vandrexu_host_new(&disk, 1, 3, &two) == VANDREXU_USED_QUEUE && two.live == 0);
+        vandrexu_host_free(&one);
+    }
+    /* what was refused has used no pass, and no number */
+    WANT(vandrexu_host_new(&disk, 1, 4, &two) == VANDREXU_DONE);
+    WANT(vandrexu_host_write(&two, 0, zeros, 512) == VANDREXU_DONE);
+    serve(&disk, 4);
+    over(&two, VANDREXU_REPLY_WRITTEN);
+    WANT(vandrexu_host_new(&disk, 2, 2, &one) == VANDREXU_USED_QUEUE && one.live == 0);
+    vandrexu_host_free(&two);
+    vandrexu_disk_free(&disk);
 }
 
 /* Two hosts swap one block; the second one served finds that of the first. */
@@ -312,6 +349,7 @@ int main(void)
 {
     nothing();
     made();
+    used();
     swaps();
     faults();
     steps();
@@ -363,7 +401,7 @@ static void run_refused(long at)
     allocations = blocks = 0;
     TRY(vandrexu_disk_new(&config, 2, &disk));
     TRY(vandrexu_host_new(&disk, 1, 1, &one));
-    /* no pass was lost */
+    /* no pass was lost; a number and a queue whose host was refused memory aren't used */
     TRY(vandrexu_host_new(&disk, 2, 2, &two));
     TRY(vandrexu_host_compare_and_write(&one, 3, zeros, 512, data, 512));
     TRY(vandrexu_disk_serve(&disk, 1));

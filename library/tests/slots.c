@@ -19,10 +19,14 @@
         }                                                                                                              \
     } while (0)
 
-/* Two pairs, each with a completion queue of its own; slots are the blocks 2 to 5. */
+/* Two pairs, or three, each with a completion queue of its own; slots are the blocks 2 to 5. */
 static const vandrexu_config config = {8, 1, 1, 0, 0, 2, 4, 4, 8, 2};
+static const vandrexu_config wide = {8, 1, 1, 0, 0, 3, 4, 4, 8, 3};
 
 enum { FIRST = 2, COUNT = 4 };
+
+static const uint8_t zeros[512];
+
 #ifndef REFUSES
 static void serve(vandrexu_disk *disk, uint16_t queue)
 {
@@ -42,11 +46,31 @@ static vandrexu_slot_reply over(vandrexu_disk *disk, uint16_t queue, vandrexu_sl
     return reply;
 }
 
+/* The same of a host of the other kind. */
+static void plain_over(vandrexu_disk *disk, uint16_t queue, vandrexu_host *host, uint32_t kind)
+{
+    vandrexu_reply reply;
+    serve(disk, queue);
+    do
+        WANT(vandrexu_host_poll(host, &reply) == VANDREXU_DONE);
+    while (reply.kind == VANDREXU_REPLY_PENDING);
+    WANT(reply.kind == kind);
+}
+
 static void two_hosts(vandrexu_disk *disk, vandrexu_slot_host *one, vandrexu_slot_host *two)
 {
-    WANT(vandrexu_disk_new(&config, 2, disk) == VANDREXU_DONE);
-    WANT(vandrexu_slot_host_new(disk, 1, 1, FIRST, COUNT, one) == VANDREXU_DONE);
-    WANT(vandrexu_slot_host_new(disk, 2, 2, FIRST, COUNT, two) == VANDREXU_DONE);
+    WANT(vandrexu_slot_disk_new(&config, 2, FIRST, COUNT, disk) == VANDREXU_DONE);
+    WANT(vandrexu_slot_host_new(disk, 1, 1, one) == VANDREXU_DONE);
+    WANT(vandrexu_slot_host_new(disk, 2, 2, two) == VANDREXU_DONE);
+}
+
+/* A host of this number on this queue is made of neither kind, for this cause. */
+static void refused(vandrexu_disk *disk, uint32_t number, uint16_t queue, uint32_t cause)
+{
+    vandrexu_slot_host host = VANDREXU_SLOT_HOST_NONE;
+    vandrexu_host plain = VANDREXU_HOST_NONE;
+    WANT(vandrexu_slot_host_new(disk, number, queue, &host) == cause && host.live == 0);
+    WANT(vandrexu_host_new(disk, number, queue, &plain) == cause && plain.live == 0);
 }
 
 /* Handles of zeros are answered, and nothing else is written. */
@@ -55,7 +79,8 @@ static void nothing(void)
     vandrexu_disk disk = VANDREXU_DISK_NONE;
     vandrexu_slot_host host = VANDREXU_SLOT_HOST_NONE;
     vandrexu_slot_reply reply = {9, 9, 9, 9, 9, 9, {9, 9}};
-    WANT(vandrexu_slot_host_new(&disk, 1, 1, FIRST, COUNT, &host) == VANDREXU_NO_HANDLE);
+    WANT(vandrexu_slot_host_new(&disk, 1, 1, &host) == VANDREXU_NO_HANDLE);
+    WANT(vandrexu_slot_host_new(&disk, 0, 0, &host) == VANDREXU_NO_HANDLE);
     WANT(vandrexu_slot_claim(&host, 0) == VANDREXU_NO_HANDLE);
     WANT(vandrexu_slot_claim_any(&host) == VANDREXU_NO_HANDLE);
     WANT(vandrexu_slot_release(&host, 0) == VANDREXU_NO_HANDLE);
@@ -66,30 +91,92 @@ static void nothing(void)
     WANT(host.at == NULL && host.live == 0);
 }
 
-/* What a slot host is refused for; one that was freed is one of zeros. */
+/* What a disk with slots is refused for: its area before its handle and its configuration. */
+static void areas(void)
+{
+    static const uint64_t firsts[] = {FIRST, 65536, 65535, 0, UINT64_MAX, UINT64_MAX};
+    static const uint32_t counts[] = {0, 1, 2, 65537, 1, UINT32_MAX};
+    vandrexu_config bad = config;
+    vandrexu_disk disk = VANDREXU_DISK_NONE;
+    bad.cqs = 3;
+    for (int i = 0; i < 6; i++) {
+        WANT(vandrexu_slot_disk_new(&config, 1, firsts[i], counts[i], &disk) == VANDREXU_BAD_AREA);
+        WANT(vandrexu_slot_disk_new(&bad, 1, firsts[i], counts[i], &disk) == VANDREXU_BAD_AREA && disk.live == 0);
+    }
+    WANT(vandrexu_slot_disk_new(&bad, 1, FIRST, COUNT, &disk) == VANDREXU_BAD_CQS && disk.live == 0);
+    WANT(vandrexu_slot_disk_new(&config, 1, 65535, 1, &disk) == VANDREXU_DONE);
+    vandrexu_disk_free(&disk);
+    WANT(vandrexu_slot_disk_new(&config, 1, 0, 65536, &disk) == VANDREXU_DONE);
+    WANT(vandrexu_slot_disk_new(&bad, 1, FIRST, COUNT, &disk) == VANDREXU_IN_USE);
+    WANT(vandrexu_slot_disk_new(&config, 1, FIRST, 0, &disk) == VANDREXU_BAD_AREA && disk.live != 0);
+    vandrexu_disk_free(&disk);
+}
+
+/* What a slot host is refused for, and of two causes the first; one that was freed is one of zeros. */
 static void made(void)
 {
-    vandrexu_disk disk = VANDREXU_DISK_NONE;
-    vandrexu_slot_host one = VANDREXU_SLOT_HOST_NONE, two = VANDREXU_SLOT_HOST_NONE;
+    vandrexu_disk disk = VANDREXU_DISK_NONE, none = VANDREXU_DISK_NONE;
+    vandrexu_slot_host one = VANDREXU_SLOT_HOST_NONE;
     WANT(vandrexu_disk_new(&config, 1, &disk) == VANDREXU_DONE);
-    WANT(vandrexu_slot_host_new(&disk, 1, 1, FIRST, 0, &one) == VANDREXU_BAD_AREA);
-    WANT(vandrexu_slot_host_new(&disk, 1, 1, 65536, 1, &one) == VANDREXU_BAD_AREA);
-    WANT(vandrexu_slot_host_new(&disk, 1, 1, UINT64_MAX, UINT32_MAX, &one) == VANDREXU_BAD_AREA);
-    WANT(vandrexu_slot_host_new(&disk, 0, 1, FIRST, COUNT, &one) == VANDREXU_BAD_NUMBER);
-    WANT(vandrexu_slot_host_new(&disk, 1, 0, FIRST, COUNT, &one) == VANDREXU_NO_QUEUE);
-    WANT(vandrexu_slot_host_new(&disk, 1, 3, FIRST, COUNT, &one) == VANDREXU_NO_QUEUE && one.live == 0);
-    WANT(vandrexu_slot_host_new(&disk, 1, 1, FIRST, COUNT, &one) == VANDREXU_DONE);
-    WANT(vandrexu_slot_host_new(&disk, 1, 1, FIRST, COUNT, &one) == VANDREXU_IN_USE);
-    WANT(vandrexu_slot_host_new(&disk, 2, 2, FIRST, COUNT, &two) == VANDREXU_NO_HOST && two.live == 0);
+    WANT(vandrexu_slot_host_new(&disk, 1, 1, &one) == VANDREXU_BAD_AREA);
+    WANT(vandrexu_slot_host_new(&disk, 0, 1, &one) == VANDREXU_BAD_AREA);
+    WANT(vandrexu_slot_host_new(&disk, 1, 0, &one) == VANDREXU_BAD_AREA && one.live == 0);
+    vandrexu_disk_free(&disk);
+    WANT(vandrexu_slot_disk_new(&config, 1, FIRST, COUNT, &disk) == VANDREXU_DONE);
+    refused(&disk, 0, 1, VANDREXU_BAD_NUMBER);
+    refused(&disk, 0, 3, VANDREXU_BAD_NUMBER);
+    refused(&disk, 1, 0, VANDREXU_NO_QUEUE);
+    refused(&disk, 1, 3, VANDREXU_NO_QUEUE);
+    WANT(vandrexu_slot_host_new(&disk, 1, 1, &one) == VANDREXU_DONE);
+    WANT(vandrexu_slot_host_new(&disk, 1, 1, &one) == VANDREXU_IN_USE);
+    WANT(vandrexu_slot_host_new(&none, 0, 0, &one) == VANDREXU_IN_USE);
+    refused(&disk, 1, 3, VANDREXU_NO_QUEUE);
+    refused(&disk, 1, 1, VANDREXU_USED_NUMBER);
+    refused(&disk, 1, 2, VANDREXU_USED_NUMBER);
+    refused(&disk, 2, 1, VANDREXU_USED_QUEUE);
+    refused(&disk, 2, 2, VANDREXU_NO_HOST);
     WANT(vandrexu_slot_claim(&one, 0) == VANDREXU_DONE);
     vandrexu_slot_host_free(&one);
     vandrexu_slot_host_free(&one);
     WANT(one.at == NULL && one.live == 0 && vandrexu_slot_claim(&one, 0) == VANDREXU_NO_HANDLE);
     vandrexu_disk_free(&disk);
-    WANT(vandrexu_disk_new(&config, 1, &disk) == VANDREXU_DONE);
-    WANT(vandrexu_slot_host_new(&disk, 7, 1, 65535, 1, &one) == VANDREXU_DONE);
+    WANT(vandrexu_slot_disk_new(&config, 1, 65535, 1, &disk) == VANDREXU_DONE);
+    WANT(vandrexu_slot_host_new(&disk, 7, 1, &one) == VANDREXU_DONE);
     vandrexu_disk_free(&disk);
     vandrexu_slot_host_free(&one);
+}
+
+/* Of hosts of one number the first is made, and of those of one completion queue, whichever kind they are of. */
+static void second_hosts(void)
+{
+    /* The submission queues 1 and 3 have completion queue 1, and 2 and 4 have 2. */
+    const vandrexu_config shared = {8, 1, 1, 0, 0, 4, 4, 4, 8, 2};
+    vandrexu_disk disk = VANDREXU_DISK_NONE;
+    vandrexu_slot_host one = VANDREXU_SLOT_HOST_NONE;
+    vandrexu_host two = VANDREXU_HOST_NONE;
+    WANT(vandrexu_slot_disk_new(&shared, 2, FIRST, COUNT, &disk) == VANDREXU_DONE);
+    WANT(vandrexu_slot_host_new(&disk, 1, 1, &one) == VANDREXU_DONE);
+    /* the second host of number 1, the third, and so on */
+    for (uint16_t queue = 1; queue <= 4; queue++)
+        refused(&disk, 1, queue, VANDREXU_USED_NUMBER);
+    refused(&disk, 2, 1, VANDREXU_USED_QUEUE);
+    refused(&disk, 2, 3, VANDREXU_USED_QUEUE);
+    /* what was refused has used no pass, and no number */
+    WANT(vandrexu_host_new(&disk, 2, 4, &two) == VANDREXU_DONE);
+    WANT(vandrexu_host_write(&two, 0, zeros, 512) == VANDREXU_DONE);
+    WANT(vandrexu_slot_claim(&one, 0) == VANDREXU_DONE);
+    over(&disk, 1, &one, VANDREXU_SLOT_HELD);
+    plain_over(&disk, 4, &two, VANDREXU_REPLY_WRITTEN);
+    for (int freed = 0; freed < 2; freed++) {
+        for (uint16_t queue = 1; queue <= 4; queue++) {
+            refused(&disk, 1, queue, VANDREXU_USED_NUMBER);
+            refused(&disk, 2, queue, VANDREXU_USED_NUMBER);
+            refused(&disk, 3, queue, VANDREXU_USED_QUEUE);
+        }
+        vandrexu_slot_host_free(&one);
+        vandrexu_host_free(&two);
+    }
+    vandrexu_disk_free(&disk);
 }
 
 /* Two hosts claim one slot: who is served first has it, and the other one when it was released. */
@@ -234,27 +321,172 @@ static void takeovers(void)
     vandrexu_disk_free(&disk);
 }
 
-/* A slot whose block is no name, one that there is no block for, and the host of another kind beside. */
-static void foreign(void)
+/* Each call that writes so many blocks, one or two, is answered so. */
+static void writes(vandrexu_host *host, uint64_t lba, uint32_t blocks, uint32_t answer)
+{
+    static const uint8_t data[1024];
+    WANT(vandrexu_host_write(host, lba, data, 512 * blocks) == answer);
+    WANT(vandrexu_host_write_zeroes(host, lba, blocks) == answer);
+    WANT(vandrexu_host_compare_and_write(host, lba, data, 512 * blocks, data, 512 * blocks) == answer);
+}
+
+/* A disk with a slot host, which holds the first slot and the last one, and a host of the other kind. */
+static void beside_slots(vandrexu_disk *disk, vandrexu_slot_host *one, vandrexu_host *two)
+{
+    WANT(vandrexu_slot_disk_new(&config, 2, FIRST, COUNT, disk) == VANDREXU_DONE);
+    WANT(vandrexu_slot_host_new(disk, 1, 1, one) == VANDREXU_DONE);
+    WANT(vandrexu_host_new(disk, 2, 2, two) == VANDREXU_DONE);
+    WANT(vandrexu_slot_claim(one, 0) == VANDREXU_DONE);
+    over(disk, 1, one, VANDREXU_SLOT_HELD);
+    WANT(vandrexu_slot_claim(one, COUNT - 1) == VANDREXU_DONE);
+    over(disk, 1, one, VANDREXU_SLOT_HELD);
+}
+
+/* A plain host writes no slot, held or free, but the block on each side of them; who holds slots has them still. */
+static void plain_writes(void)
 {
     vandrexu_disk disk = VANDREXU_DISK_NONE;
     vandrexu_slot_host one = VANDREXU_SLOT_HOST_NONE;
     vandrexu_host two = VANDREXU_HOST_NONE;
     vandrexu_slot_reply reply;
-    vandrexu_reply written;
-    uint8_t data[512];
+    vandrexu_reply none;
+    uint8_t data[4096];
     memset(data, 0xEE, sizeof data);
-    WANT(vandrexu_disk_new(&config, 2, &disk) == VANDREXU_DONE);
-    WANT(vandrexu_slot_host_new(&disk, 1, 1, FIRST, 100, &one) == VANDREXU_DONE);
-    WANT(vandrexu_host_new(&disk, 2, 2, &two) == VANDREXU_DONE);
-    WANT(vandrexu_host_write(&two, FIRST, data, sizeof data) == VANDREXU_DONE);
-    serve(&disk, 2);
-    WANT(vandrexu_host_poll(&two, &written) == VANDREXU_DONE && written.kind == VANDREXU_REPLY_WRITTEN);
-    WANT(vandrexu_slot_ask_holder(&one, 0) == VANDREXU_DONE);
-    over(&disk, 1, &one, VANDREXU_SLOT_FOREIGN);
+    beside_slots(&disk, &one, &two);
+    for (uint64_t lba = FIRST; lba < FIRST + COUNT; lba++)
+        writes(&two, lba, 1, VANDREXU_CALL_SLOT_AREA);
+    /* of two blocks one is the first slot, or the last one */
+    writes(&two, FIRST - 1, 2, VANDREXU_CALL_SLOT_AREA);
+    writes(&two, FIRST + COUNT - 1, 2, VANDREXU_CALL_SLOT_AREA);
+    /* from block 0 to the first slot, from the last slot to block 7, and all blocks */
+    WANT(vandrexu_host_write(&two, 0, data, 1536) == VANDREXU_CALL_SLOT_AREA);
+    WANT(vandrexu_host_write(&two, 5, data, 1536) == VANDREXU_CALL_SLOT_AREA);
+    WANT(vandrexu_host_write(&two, 0, data, sizeof data) == VANDREXU_CALL_SLOT_AREA);
+    WANT(vandrexu_host_write_zeroes(&two, 0, 256) == VANDREXU_CALL_SLOT_AREA);
+    /* nothing was published */
+    WANT(vandrexu_host_poll(&two, &none) == VANDREXU_NO_CALL);
+    WANT(vandrexu_disk_serve(&disk, 2) == VANDREXU_NO_ENTRY);
+    for (uint64_t lba = FIRST - 1; lba <= FIRST + COUNT; lba += COUNT + 1) {
+        WANT(vandrexu_host_write(&two, lba, data, 512) == VANDREXU_DONE);
+        plain_over(&disk, 2, &two, VANDREXU_REPLY_WRITTEN);
+        WANT(vandrexu_host_compare_and_write(&two, lba, data, 512, zeros, 512) == VANDREXU_DONE);
+        plain_over(&disk, 2, &two, VANDREXU_REPLY_SWAPPED);
+        WANT(vandrexu_host_write_zeroes(&two, lba, 1) == VANDREXU_DONE);
+        plain_over(&disk, 2, &two, VANDREXU_REPLY_WRITTEN);
+    }
+    /* and up to the slots: the blocks 0 and 1, 6 and 7 */
+    for (uint64_t lba = 0; lba <= 6; lba += 6) {
+        WANT(vandrexu_host_write(&two, lba, data, 1024) == VANDREXU_DONE);
+        plain_over(&disk, 2, &two, VANDREXU_REPLY_WRITTEN);
+    }
+    for (uint32_t slot = 0; slot < COUNT; slot += COUNT - 1) {
+        WANT(vandrexu_slot_ask_holder(&one, slot) == VANDREXU_DONE);
+        reply = over(&disk, 1, &one, VANDREXU_SLOT_OF_NAME);
+        WANT(reply.host == 1 && reply.serial == (slot == 0 ? 1u : 2u));
+        WANT(vandrexu_slot_claim(&one, slot) == VANDREXU_HELD);
+        WANT(vandrexu_slot_release(&one, slot) == VANDREXU_DONE);
+        over(&disk, 1, &one, VANDREXU_SLOT_RELEASED);
+        WANT(vandrexu_slot_ask_holder(&one, slot) == VANDREXU_DONE);
+        over(&disk, 1, &one, VANDREXU_SLOT_FREE);
+        writes(&two, FIRST + slot, 1, VANDREXU_CALL_SLOT_AREA);
+    }
+    vandrexu_slot_host_free(&one);
+    vandrexu_host_free(&two);
+    vandrexu_disk_free(&disk);
+}
+
+/* A plain host reads slots and compares them. What its call is refused for before a slot, and what behind one. */
+static void plain_answers(void)
+{
+    static const uint8_t data[1536], name[512] = {1, 0, 0, 0, 0, 0, 0, 0, 1};
+    vandrexu_config narrow = config;
+    vandrexu_disk disk = VANDREXU_DISK_NONE;
+    vandrexu_slot_host one = VANDREXU_SLOT_HOST_NONE;
+    vandrexu_host two = VANDREXU_HOST_NONE;
+    uint8_t got[512 * COUNT];
+    size_t needed;
+    beside_slots(&disk, &one, &two);
+    WANT(vandrexu_host_compare(&two, FIRST, name, sizeof name) == VANDREXU_DONE);
+    plain_over(&disk, 2, &two, VANDREXU_REPLY_EQUAL);
+    WANT(vandrexu_host_read(&two, FIRST, COUNT) == VANDREXU_DONE);
+    WANT(vandrexu_host_read(&two, FIRST, COUNT) == VANDREXU_IN_CALL);
+    writes(&two, FIRST, 1, VANDREXU_IN_CALL);
+    plain_over(&disk, 2, &two, VANDREXU_REPLY_READ);
+    WANT(vandrexu_host_data(&two, got, sizeof got, &needed) == VANDREXU_DONE && needed == sizeof got);
+    WANT(memcmp(got, name, 512) == 0 && memcmp(got + 512, zeros, 512) == 0 && memcmp(got + 1024, zeros, 512) == 0);
+    WANT(got[1536] == 1 && got[1536 + 8] == 2);
+    /* the name that is there swaps nothing */
+    WANT(vandrexu_host_compare_and_write(&two, FIRST, name, 512, zeros, 512) == VANDREXU_CALL_SLOT_AREA);
+    WANT(vandrexu_host_write(&two, FIRST, data, 0) == VANDREXU_CALL_LENGTH);
+    WANT(vandrexu_host_write(&two, FIRST, data, 511) == VANDREXU_CALL_LENGTH);
+    WANT(vandrexu_host_write_zeroes(&two, FIRST, 0) == VANDREXU_CALL_LENGTH);
+    WANT(vandrexu_host_write_zeroes(&two, FIRST, 257) == VANDREXU_CALL_TOO_LONG);
+    WANT(vandrexu_host_compare_and_write(&two, FIRST, data, 512, data, 1024) == VANDREXU_CALL_LENGTH);
+    WANT(vandrexu_host_compare_and_write(&two, FIRST, data, 1536, data, 1536) == VANDREXU_CALL_TOO_LONG);
+    vandrexu_slot_host_free(&one);
+    vandrexu_host_free(&two);
+    vandrexu_disk_free(&disk);
+    /* a queue of two entries takes one at a time, and so no pair */
+    narrow.sq_size = 2;
+    WANT(vandrexu_slot_disk_new(&narrow, 1, FIRST, COUNT, &disk) == VANDREXU_DONE);
+    WANT(vandrexu_host_new(&disk, 1, 1, &two) == VANDREXU_DONE);
+    WANT(vandrexu_host_compare_and_write(&two, FIRST, data, 512, data, 512) == VANDREXU_CALL_SLOT_AREA);
+    WANT(vandrexu_host_compare_and_write(&two, FIRST - 1, data, 512, data, 512) == VANDREXU_CALL_NO_ROOM);
+    vandrexu_host_free(&two);
+    vandrexu_disk_free(&disk);
+}
+
+/* Host 1 publishes its release, and is freed before that is served. It isn't made again: its claim would have the same
+ * name, and the release would end it. Host 2 takes the slot over before the release takes effect, or too late. Then
+ * host 3 claims it. One of the two believes that it has the slot, and the block says so, too. */
+static void made_again(int too_late)
+{
+    vandrexu_disk disk = VANDREXU_DISK_NONE;
+    vandrexu_slot_host one = VANDREXU_SLOT_HOST_NONE, two = VANDREXU_SLOT_HOST_NONE, three = VANDREXU_SLOT_HOST_NONE;
+    vandrexu_slot_host *winner = too_late ? &three : &two, *loser = too_late ? &two : &three;
+    vandrexu_slot_reply reply;
+    WANT(vandrexu_slot_disk_new(&wide, 3, FIRST, COUNT, &disk) == VANDREXU_DONE);
+    WANT(vandrexu_slot_host_new(&disk, 1, 1, &one) == VANDREXU_DONE);
+    WANT(vandrexu_slot_host_new(&disk, 2, 2, &two) == VANDREXU_DONE);
     WANT(vandrexu_slot_claim(&one, 0) == VANDREXU_DONE);
-    over(&disk, 1, &one, VANDREXU_SLOT_TAKEN);
-    /* LBA Out of Range */
+    over(&disk, 1, &one, VANDREXU_SLOT_HELD);
+    WANT(vandrexu_slot_release(&one, 0) == VANDREXU_DONE);
+    vandrexu_slot_host_free(&one);
+    for (uint16_t queue = 1; queue <= 3; queue++)
+        refused(&disk, 1, queue, VANDREXU_USED_NUMBER);
+    refused(&disk, 3, 1, VANDREXU_USED_QUEUE);
+    WANT(vandrexu_slot_ask_holder(&two, 0) == VANDREXU_DONE);
+    reply = over(&disk, 2, &two, VANDREXU_SLOT_OF_NAME);
+    WANT(reply.host == 1 && reply.serial == 1);
+    WANT(vandrexu_slot_take_over(&two, 0, reply.host, reply.serial) == VANDREXU_DONE);
+    if (too_late)
+        serve(&disk, 1);
+    over(&disk, 2, &two, too_late ? VANDREXU_SLOT_TAKEN : VANDREXU_SLOT_HELD);
+    if (!too_late)
+        serve(&disk, 1);
+    refused(&disk, 1, 3, VANDREXU_USED_NUMBER);
+    refused(&disk, 3, 1, VANDREXU_USED_QUEUE);
+    WANT(vandrexu_slot_host_new(&disk, 3, 3, &three) == VANDREXU_DONE);
+    WANT(vandrexu_slot_claim(&three, 0) == VANDREXU_DONE);
+    over(&disk, 3, &three, too_late ? VANDREXU_SLOT_HELD : VANDREXU_SLOT_TAKEN);
+    WANT(vandrexu_slot_claim(winner, 0) == VANDREXU_HELD);
+    WANT(vandrexu_slot_release(loser, 0) == VANDREXU_NOT_HELD);
+    WANT(vandrexu_slot_ask_holder(&two, 0) == VANDREXU_DONE);
+    reply = over(&disk, 2, &two, VANDREXU_SLOT_OF_NAME);
+    WANT(reply.host == (too_late ? 3u : 2u) && reply.serial == 1);
+    vandrexu_slot_host_free(&two);
+    vandrexu_slot_host_free(&three);
+    vandrexu_disk_free(&disk);
+}
+
+/* A slot that there is no block for: LBA Out of Range. */
+static void out_of_range(void)
+{
+    vandrexu_disk disk = VANDREXU_DISK_NONE;
+    vandrexu_slot_host one = VANDREXU_SLOT_HOST_NONE;
+    vandrexu_slot_reply reply;
+    WANT(vandrexu_slot_disk_new(&config, 1, FIRST, 100, &disk) == VANDREXU_DONE);
+    WANT(vandrexu_slot_host_new(&disk, 1, 1, &one) == VANDREXU_DONE);
     WANT(vandrexu_slot_claim(&one, 99) == VANDREXU_DONE);
     serve(&disk, 1);
     do
@@ -268,7 +500,6 @@ static void foreign(void)
     WANT(reply.kind == VANDREXU_SLOT_FAILED && reply.sct == 0 && reply.sc == 0x80);
     WANT(vandrexu_slot_poll(&one, &reply) == VANDREXU_NO_CALL);
     vandrexu_slot_host_free(&one);
-    vandrexu_host_free(&two);
     vandrexu_disk_free(&disk);
 }
 
@@ -278,8 +509,8 @@ static void many(void)
     for (int i = 0; i < 20000; i++) {
         vandrexu_disk disk = VANDREXU_DISK_NONE;
         vandrexu_slot_host host = VANDREXU_SLOT_HOST_NONE;
-        WANT(vandrexu_disk_new(&config, 1, &disk) == VANDREXU_DONE);
-        WANT(vandrexu_slot_host_new(&disk, 1, 1, FIRST, COUNT, &host) == VANDREXU_DONE);
+        WANT(vandrexu_slot_disk_new(&config, 1, FIRST, COUNT, &disk) == VANDREXU_DONE);
+        WANT(vandrexu_slot_host_new(&disk, 1, 1, &host) == VANDREXU_DONE);
         if (i % 2 == 0)
             WANT(vandrexu_slot_claim(&host, 0) == VANDREXU_DONE);
         if (i % 4 == 0)
@@ -355,11 +586,17 @@ static void threads(void)
 int main(void)
 {
     nothing();
+    areas();
     made();
+    second_hosts();
     claims();
     claims_any();
     takeovers();
-    foreign();
+    plain_writes();
+    plain_answers();
+    made_again(0);
+    made_again(1);
+    out_of_range();
     many();
     threads();
     puts("slots: as they should be");
@@ -402,12 +639,16 @@ static void run_refused(long at)
 {
     vandrexu_disk disk = VANDREXU_DISK_NONE;
     vandrexu_slot_host one = VANDREXU_SLOT_HOST_NONE, two = VANDREXU_SLOT_HOST_NONE;
+    vandrexu_host plain = VANDREXU_HOST_NONE;
     refused_at = at;
     allocations = blocks = 0;
-    TRY(vandrexu_disk_new(&config, 2, &disk));
-    TRY(vandrexu_slot_host_new(&disk, 1, 1, FIRST, COUNT, &one));
-    /* no pass was lost */
-    TRY(vandrexu_slot_host_new(&disk, 2, 2, FIRST, COUNT, &two));
+    TRY(vandrexu_slot_disk_new(&wide, 3, FIRST, COUNT, &disk));
+    TRY(vandrexu_slot_host_new(&disk, 1, 1, &one));
+    /* no pass was lost; a number and a queue whose host was refused memory aren't used */
+    TRY(vandrexu_slot_host_new(&disk, 2, 2, &two));
+    TRY(vandrexu_host_new(&disk, 3, 3, &plain));
+    /* a slot is looked for before memory is */
+    WANT(vandrexu_host_write(&plain, FIRST, zeros, 512) == VANDREXU_CALL_SLOT_AREA);
     TRY(vandrexu_slot_claim_any(&one));
     poll(&disk, 1, &one, VANDREXU_SLOT_HELD);
     TRY(vandrexu_slot_claim(&one, 1));
@@ -424,6 +665,7 @@ static void run_refused(long at)
     vandrexu_disk_free(&disk);
     vandrexu_slot_host_free(&one);
     vandrexu_slot_host_free(&two);
+    vandrexu_host_free(&plain);
     WANT(blocks == 0);
 }
 

@@ -212,9 +212,9 @@ class Calls(unittest.TestCase):
             Checker(SMALL).close()
             Controller(SMALL)
             Checker(SMALL)
-            with Disk(SMALL, 2) as disk:
+            with Disk(TWO, 2, slots=(0, 8)) as disk:
                 Host(disk, 1, 1)
-                SlotHost(disk, 2, 1, 0, 8)
+                SlotHost(disk, 2, 2)
         # (each has a page at least)
         self.assertLess(pages(), before + 5000)
 

@@ -93,6 +93,70 @@ class Hosts(unittest.TestCase):
             refusal = self.refused(Status.CALL_NO_ROOM, host.compare_and_write, 0, A1, A1)
             self.assertIsInstance(refusal, CallRefused)
 
+    def test_a_number_and_a_queue_that_were_had(self):
+        last = 2 ** 32 - 1
+        with Disk(TWO, 1) as disk:
+            # (a host that isn't made has neither)
+            self.refused(Status.NO_QUEUE, disk.host, last, 3)
+            host = disk.host(last, 2)
+            # of one that is open, and of one that is closed
+            for _ in "12":
+                self.refused(Status.BAD_NUMBER, disk.host, 0, 3)
+                self.refused(Status.NO_QUEUE, disk.host, last, 3)
+                for queue in (1, 2):
+                    refusal = self.refused(Status.USED_NUMBER, disk.host, last, queue)
+                    self.assertIs(type(refusal), vandrexu.Error)
+                self.assertIs(type(self.refused(Status.USED_QUEUE, disk.host, 1, 2)), vandrexu.Error)
+                self.refused(Status.NO_HOST, disk.host, 1, 1)
+                host.close()
+        with Disk(TWO, 2) as disk, disk.host(1, 2), disk.host(2, 1) as host:
+            self.assertEqual((host.number, host.queue, disk.slots), (2, 1, None))
+
+    def writes(self, host, lba, blocks):
+        """The calls that write zeros to so many blocks, with arguments."""
+        zeros = bytes(512 * blocks)
+        return (host.write, lba, zeros), (host.write_zeroes, lba, blocks), (host.compare_and_write, lba, zeros, zeros)
+
+    def test_a_host_that_would_write_to_slots(self):
+        # (the slots are the blocks 2 to 5)
+        with Disk(TWO, 1, slots=(2, 4)) as disk, disk.host(1, 1) as host:
+            for lba, blocks in ((2, 1), (3, 2), (5, 1), (1, 2), (5, 2)):
+                for call, *arguments in self.writes(host, lba, blocks):
+                    self.assertIsInstance(self.refused(Status.CALL_SLOT_AREA, call, *arguments), CallRefused)
+            self.refused(Status.CALL_SLOT_AREA, host.write_zeroes, 0, 256)
+            # what is wrong with the call itself is told first
+            for status, call, *arguments in (
+                    (Status.CALL_LENGTH, host.write, 2, bytes(511)), (Status.CALL_LENGTH, host.write_zeroes, 2, 0),
+                    (Status.CALL_LENGTH, host.compare_and_write, 2, bytes(512), bytes(1024)),
+                    (Status.CALL_TOO_LONG, host.write_zeroes, 2, 257),
+                    (Status.CALL_TOO_LONG, host.compare_and_write, 2, bytes(1536), bytes(1536))):
+                self.refused(status, call, *arguments)
+            self.refused(Status.NO_ENTRY, disk.serve, 1)
+            # they are read and compared, and the blocks on both sides are written
+            host.read(1, 6)
+            self.refused(Status.IN_CALL, host.write, 2, A1)
+            self.assertEqual(self.over(disk, host), Reply(ReplyKind.READ, bytes(3072)))
+            host.compare(1, bytes(3072))
+            self.assertEqual(self.over(disk, host), Reply(ReplyKind.EQUAL))
+            for lba, blocks in ((0, 2), (1, 1), (6, 1), (6, 2)):
+                for call, *arguments in self.writes(host, lba, blocks):
+                    call(*arguments)
+                    self.assertIn(self.over(disk, host).kind, (ReplyKind.WRITTEN, ReplyKind.SWAPPED))
+        # a queue of two entries takes one at a time
+        with Disk(Config.of_line("config 8 1 1 0 0 1 2 4 8"), 1, slots=(2, 4)) as disk, disk.host(1, 1) as host:
+            self.refused(Status.CALL_SLOT_AREA, host.compare_and_write, 5, A1, A1)
+            self.refused(Status.CALL_NO_ROOM, host.compare_and_write, 6, A1, A1)
+
+    def test_slots_behind_the_volume(self):
+        with Disk(TWO, 1, slots=(65535, 1)) as disk, disk.host(1, 1) as host:
+            for call, *arguments in self.writes(host, 65535, 1):
+                self.refused(Status.CALL_SLOT_AREA, call, *arguments)
+            # (these are begun, and fail)
+            for lba in (65534, 65536, 2 ** 64 - 1):
+                for call, *arguments in self.writes(host, lba, 1):
+                    call(*arguments)
+                    self.assertEqual(self.over(disk, host), Reply(ReplyKind.FAILED, status=(0, 0x80)))
+
     def test_each_reply(self):
         disk = Disk(TWO, 2)
         one, two = disk.host(1, 1), disk.host(2, 2)

@@ -3,15 +3,19 @@
 import sys
 import threading
 import unittest
+from functools import partial
 
 import vandrexu
-from vandrexu import (Busy, CallRefused, Config, Disk, Name, NoHandle, Refused, Reply, ReplyKind, SlotHost, SlotRefused,
-                      SlotReply, SlotReplyKind, Status)
+from vandrexu import (BadConfig, Busy, CallRefused, Config, Disk, Name, NoHandle, Refused, Reply, ReplyKind, SlotHost,
+                      SlotRefused, SlotReply, SlotReplyKind, Status)
 
 TWO = Config.of_line("config 8 1 1 0 0 2 4 4 8")
-FIRST, COUNT = 2, 4
-FREE, TAKEN, RELEASED, FOREIGN, PENDING = (SlotReply(it) for it in (
-    SlotReplyKind.FREE, SlotReplyKind.TAKEN, SlotReplyKind.RELEASED, SlotReplyKind.FOREIGN, SlotReplyKind.PENDING))
+THREE = Config.of_line("config 8 1 1 0 0 3 4 4 8")
+# (the blocks 2 to 5)
+SLOTS = FIRST, COUNT = 2, 4
+LAST = FIRST + COUNT - 1
+FREE, TAKEN, RELEASED, PENDING = (SlotReply(it) for it in (
+    SlotReplyKind.FREE, SlotReplyKind.TAKEN, SlotReplyKind.RELEASED, SlotReplyKind.PENDING))
 
 
 def held(slot):
@@ -23,9 +27,14 @@ def of(host, serial):
 
 
 def two_hosts():
-    """A disk and two hosts, each with the submission queue of its number; their slots are the blocks 2 to 5."""
-    disk = Disk(TWO, 2)
-    return disk, disk.slot_host(1, 1, FIRST, COUNT), disk.slot_host(2, 2, FIRST, COUNT)
+    """A disk and two hosts, each with the submission queue of its number."""
+    disk = Disk(TWO, 2, slots=SLOTS)
+    return disk, disk.slot_host(1, 1), disk.slot_host(2, 2)
+
+
+def block_of(host, serial):
+    """The block of a slot that is held by this name."""
+    return host.to_bytes(8, "little") + serial.to_bytes(8, "little") + bytes(496)
 
 
 def calls_of(host, slot):
@@ -42,30 +51,158 @@ class Slots(unittest.TestCase):
         self.assertEqual(isinstance(caught.exception, SlotRefused), 118 <= status <= 123)
         return caught.exception
 
-    def over(self, disk, host):
-        """Serves a host's queue, and polls until its call is over."""
-        disk.serve(host.queue)
-        while (reply := host.poll()) == PENDING:
+    def ended(self, host):
+        """Polls until the call of a host, of either kind, is over."""
+        while (reply := host.poll()).kind.name == "PENDING":
             pass
         self.refused(Status.NO_CALL, host.poll)
         return reply
 
+    def over(self, disk, host):
+        """Serves a host's queue, and polls until its call is over."""
+        disk.serve(host.queue)
+        return self.ended(host)
+
+    def test_what_no_disk_with_slots_is_made_of(self):
+        bad = Config(jobs=0)
+        for area in ((FIRST, 0), (65536, 1), (65535, 2), (0, 65537), (2 ** 64 - 1, 2 ** 32 - 1)):
+            for config in (TWO, bad):
+                self.refused(Status.BAD_AREA, partial(Disk, config, 1, slots=area))
+        self.assertIsInstance(self.refused(Status.BAD_JOBS, partial(Disk, bad, 1, slots=SLOTS)), BadConfig)
+        for area in ((-1, COUNT), (2 ** 64, COUNT), (FIRST, -1), (FIRST, 2 ** 32)):
+            self.assertRaises(OverflowError, Disk, TWO, 1, slots=area)
+        for first, count in ((0, 65536), (65535, 1), (0, 1)):
+            with Disk(TWO, 1, slots=(first, count)) as disk, disk.slot_host(1, 1) as host:
+                self.assertEqual(disk.slots, (first, count))
+                self.refused(Status.NO_SLOT, host.ask_holder, count)
+                host.ask_holder(count - 1)
+                self.assertEqual(self.over(disk, host).kind.name, "FREE" if first + count <= 8 else "FAILED")
+
     def test_what_no_slot_host_is_made_of(self):
         with Disk(TWO, 1) as disk:
-            for first, count in ((FIRST, 0), (65536, 1), (65535, 2), (0, 65537), (2 ** 64 - 1, 2 ** 32 - 1)):
-                self.refused(Status.BAD_AREA, disk.slot_host, 1, 1, first, count)
-            self.refused(Status.BAD_NUMBER, disk.slot_host, 0, 1, FIRST, COUNT)
+            # (this disk has no slots)
+            for number, queue in ((1, 1), (0, 3)):
+                self.refused(Status.BAD_AREA, disk.slot_host, number, queue)
+            disk.host(1, 1).close()
+            self.refused(Status.BAD_AREA, disk.slot_host, 1, 1)
+        self.refused(Status.NO_HANDLE, disk.slot_host, 1, 1)
+        with Disk(TWO, 1, slots=SLOTS) as disk:
+            self.refused(Status.BAD_NUMBER, disk.slot_host, 0, 3)
             for queue in (0, 3):
-                self.assertIsInstance(self.refused(Status.NO_QUEUE, disk.slot_host, 1, queue, FIRST, COUNT), Refused)
-            for arguments in ((2 ** 32, 1, FIRST, COUNT), (1, 65536, FIRST, COUNT), (1, 1, -1, COUNT),
-                              (1, 1, 2 ** 64, COUNT), (1, 1, FIRST, 2 ** 32)):
+                self.assertIsInstance(self.refused(Status.NO_QUEUE, disk.slot_host, 1, queue), Refused)
+            for arguments in ((2 ** 32, 1), (-1, 1), (1, 65536)):
                 self.assertRaises(OverflowError, disk.slot_host, *arguments)
-            host = SlotHost(disk, 1, 1, 0, 65536)
-            self.assertEqual((host.number, host.queue, host.first, host.count), (1, 1, 0, 65536))
-            self.refused(Status.NO_HOST, disk.slot_host, 2, 2, FIRST, COUNT)
-            self.refused(Status.NO_HOST, disk.host, 2, 2)
+            host = SlotHost(disk, 1, 1)
+            self.assertEqual((host.number, host.queue), (1, 1))
+            for make in (disk.slot_host, disk.host):
+                self.refused(Status.NO_QUEUE, make, 1, 3)
+                self.refused(Status.USED_NUMBER, make, 1, 1)
+                self.refused(Status.USED_NUMBER, make, 1, 2)
+                self.refused(Status.USED_QUEUE, make, 2, 1)
+                self.refused(Status.NO_HOST, make, 2, 2)
             host.close()
-            self.refused(Status.NO_HOST, disk.slot_host, 2, 2, FIRST, COUNT)
+            self.refused(Status.NO_HOST, disk.slot_host, 2, 2)
+
+    # ---- what a disk refuses, so that a slot has one holder
+
+    def test_three_slot_hosts_of_one_number(self):
+        """The second and the third aren't made, on whichever queue, nor is a plain host of the number."""
+        with Disk(THREE, 3, slots=SLOTS) as disk, disk.slot_host(1, 1) as one:
+            one.claim(0)
+            self.assertEqual(self.over(disk, one), held(0))
+            # beside the first, and where it is closed
+            for _ in "12":
+                for queue in (1, 2, 3):
+                    for make in (disk.slot_host, disk.host):
+                        self.assertIs(type(self.refused(Status.USED_NUMBER, make, 1, queue)), vandrexu.Error)
+                one.close()
+            # a plain host's number is no other host's either
+            with disk.host(2, 2), disk.slot_host(3, 3) as three:
+                for make in (disk.slot_host, disk.host):
+                    self.refused(Status.USED_NUMBER, make, 2, 3)
+                three.ask_holder(0)
+                self.assertEqual(self.over(disk, three), of(1, 1))
+
+    def test_a_queue_that_had_a_host(self):
+        """None is made there, of either kind, nor on another queue of the same completion queue."""
+        # (the submission queues 1 and 3 have one completion queue, and 2 and 4 the other one)
+        with Disk(Config.of_line("config2 8 1 1 0 0 4 4 4 8 2"), 3, slots=SLOTS) as disk, disk.slot_host(1, 3) as one:
+            for _ in "12":
+                for queue in (3, 1):
+                    for make in (disk.slot_host, disk.host):
+                        self.assertIs(type(self.refused(Status.USED_QUEUE, make, 2, queue)), vandrexu.Error)
+                one.close()
+            with disk.host(2, 2) as two:
+                for queue in (1, 2, 3, 4):
+                    for make in (disk.slot_host, disk.host):
+                        self.refused(Status.USED_QUEUE, make, 3, queue)
+                two.read(FIRST)
+                self.assertEqual(self.over(disk, two).kind, ReplyKind.READ)
+
+    def test_a_plain_host_over_a_held_slot(self):
+        """It reads what is there, but writes only beside it, though it names what it read."""
+        with Disk(TWO, 2, slots=SLOTS) as disk, disk.slot_host(1, 1) as one, disk.host(2, 2) as two:
+            for slot in (0, COUNT - 1):
+                one.claim(slot)
+                self.assertEqual(self.over(disk, one), held(slot))
+            # the first slot and the last one, alone and at the end of a range
+            for lba, blocks in ((FIRST, 1), (FIRST - 1, 2), (LAST, 1), (LAST, 2)):
+                two.read(lba, blocks)
+                found, zeros = self.over(disk, two).data, bytes(512 * blocks)
+                self.assertIn(block_of(1, 1 if lba < LAST else 2), (found[:512], found[-512:]))
+                for call, *arguments in ((two.write, zeros), (two.write_zeroes, blocks),
+                                         (two.compare_and_write, found, zeros)):
+                    self.assertIsInstance(self.refused(Status.CALL_SLOT_AREA, call, lba, *arguments), CallRefused)
+            for call, *arguments in ((two.write, bytes(4096)), (two.write_zeroes, 8)):
+                self.refused(Status.CALL_SLOT_AREA, call, 0, *arguments)
+            self.refused(Status.NO_ENTRY, disk.serve, 2)
+            data = b"\xA1" * 512
+            for lba in (FIRST - 1, LAST + 1):
+                for kind, call, *arguments in ((ReplyKind.WRITTEN, two.write, data),
+                                               (ReplyKind.SWAPPED, two.compare_and_write, data, bytes(512)),
+                                               (ReplyKind.WRITTEN, two.write_zeroes, 1)):
+                    call(lba, *arguments)
+                    self.assertEqual(self.over(disk, two), Reply(kind))
+            for slot, serial in ((0, 1), (COUNT - 1, 2)):
+                self.refused(Status.HELD, one.claim, slot)
+                one.ask_holder(slot)
+                self.assertEqual(self.over(disk, one), of(1, serial))
+                one.release(slot)
+                self.assertEqual(self.over(disk, one), RELEASED)
+
+    def test_a_host_that_would_be_made_again(self):
+        """Host 1 publishes its release and is closed before it is served; host 2 takes over from the name that it read.
+        Whichever of both takes effect first, host 1 isn't made again, and one host has the slot."""
+        for order, *ends in (((2, 1), held(0), TAKEN), ((1, 2), TAKEN, held(0))):
+            with Disk(THREE, 4, slots=SLOTS) as disk, disk.slot_host(1, 1) as one, disk.slot_host(2, 2) as two:
+                one.claim(0)
+                self.assertEqual(self.over(disk, one), held(0))
+                one.release(0)
+                one.close()
+                two.ask_holder(0)
+                name = self.over(disk, two).name
+                self.assertEqual(name, Name(1, 1))
+                two.take_over(0, name)
+                for queue in order:
+                    disk.serve(queue)
+                    for make in (disk.slot_host, disk.host):
+                        self.refused(Status.USED_NUMBER, make, 1, 1)
+                        self.refused(Status.USED_NUMBER, make, 1, 3)
+                        self.refused(Status.USED_QUEUE, make, 3, 1)
+                three = disk.slot_host(3, 3)
+                two_ends = self.ended(two)
+                three.claim(0)
+                self.assertEqual([two_ends, self.over(disk, three)], ends)
+                # who has it is the one whose name stands there, and the other one has nothing to release
+                has, hasnt = (two, three) if two_ends == held(0) else (three, two)
+                self.refused(Status.NOT_HELD, hasnt.release, 0)
+                hasnt.ask_holder(0)
+                self.assertEqual(self.over(disk, hasnt), of(has.number, 1))
+                has.release(0)
+                self.assertEqual(self.over(disk, has), RELEASED)
+                three.close()
+
+    # ---- what slot hosts are answered
 
     def any(self, disk, host):
         """Claims any slot, each one once it is served."""
@@ -196,22 +333,31 @@ class Slots(unittest.TestCase):
             two.ask_holder(slot)
             self.assertEqual(self.over(disk, two), FREE)
 
-    def test_a_block_that_is_no_name(self):
-        with Disk(TWO, 2) as disk, disk.slot_host(1, 1, FIRST, COUNT) as one, disk.host(2, 2) as two:
-            two.write(FIRST, b"\xEE" * 512)
-            disk.serve(2)
-            self.assertEqual(two.poll(), Reply(ReplyKind.WRITTEN))
+    def test_a_block_is_zeros_or_a_name(self):
+        with Disk(TWO, 2, slots=SLOTS) as disk, disk.slot_host(1, 1) as one, disk.host(2, 2) as two:
+            def has(data):
+                two.read(FIRST)
+                self.assertEqual(self.over(disk, two), Reply(ReplyKind.READ, data))
+                self.refused(Status.CALL_SLOT_AREA, two.write, FIRST, b"\xEE" * 512)
+
+            has(bytes(512))
             one.ask_holder(0)
-            self.assertEqual(self.over(disk, one), FOREIGN)
+            self.assertEqual(self.over(disk, one), FREE)
             one.claim(0)
-            self.assertEqual(self.over(disk, one), TAKEN)
+            self.assertEqual(self.over(disk, one), held(0))
+            has(block_of(1, 1))
+            one.release(0)
+            self.assertEqual(self.over(disk, one), RELEASED)
+            has(bytes(512))
+            # (nobody has it by this name)
             one.take_over(0, Name(2, 1))
             self.assertEqual(self.over(disk, one), TAKEN)
+            has(bytes(512))
 
     def test_calls_that_fail(self):
         failed = SlotReply(SlotReplyKind.FAILED, status=(0, 0x80))
         # (slot 6 is block 8, which the volume doesn't have)
-        with Disk(TWO, 1) as disk, disk.slot_host(1, 1, FIRST, 7) as host:
+        with Disk(TWO, 1, slots=(FIRST, 7)) as disk, disk.slot_host(1, 1) as host:
             host.claim(6)
             self.assertEqual(self.over(disk, host), failed)
             self.refused(Status.NOT_HELD, host.release, 6)
@@ -222,7 +368,7 @@ class Slots(unittest.TestCase):
 
     def test_a_queue_without_room_for_a_pair(self):
         # (a queue of two entries takes one at a time)
-        with Disk(Config.of_line("config 8 1 1 0 0 1 2 4 8"), 1) as disk, disk.slot_host(1, 1, FIRST, COUNT) as host:
+        with Disk(Config.of_line("config 8 1 1 0 0 1 2 4 8"), 1, slots=SLOTS) as disk, disk.slot_host(1, 1) as host:
             for call, *arguments in ((host.claim, 0), (host.take_over, 0, Name(2, 1))):
                 self.assertIsInstance(self.refused(Status.CALL_NO_ROOM, call, *arguments), CallRefused)
             self.refused(Status.NO_CALL, host.poll)
@@ -230,7 +376,7 @@ class Slots(unittest.TestCase):
             self.assertEqual(self.over(disk, host), FREE)
 
     def test_a_completion_queue_with_room_for_one(self):
-        with Disk(Config.of_line("config 8 1 1 0 0 1 4 2 8"), 1) as disk, disk.slot_host(1, 1, FIRST, COUNT) as host:
+        with Disk(Config.of_line("config 8 1 1 0 0 1 4 2 8"), 1, slots=SLOTS) as disk, disk.slot_host(1, 1) as host:
             host.claim(0)
             # (what was fetched is kept, and goes on once there is room)
             self.assertIsInstance(self.refused(Status.CQ_FULL, disk.serve, 1), Refused)
@@ -243,7 +389,7 @@ class Slots(unittest.TestCase):
         one.claim(0)
         self.assertEqual(self.over(disk, one), held(0))
         disk.close()
-        self.assertIsInstance(self.refused(Status.NO_HANDLE, disk.slot_host, 1, 1, FIRST, COUNT), NoHandle)
+        self.assertIsInstance(self.refused(Status.NO_HANDLE, disk.slot_host, 1, 1), NoHandle)
         # a host outlives its disk
         one.release(0)
         two.claim(0)

@@ -1,5 +1,6 @@
 mod Opens
 mod PieceLines
+pub mod HostNumbers
 pub mod Marks
 pub mod Moving
 pub mod Owned

@@ -1,10 +1,11 @@
 -- What contracts say of a disk.
 use Rattle.std.specs.Arc.{arc_value}
-use Rattle.std.specs.Prelude.{All, Err, None, Ok, Option, Result, Some, [], suc, true, vec_len, zero, ℕ, ◌≡◌, ◌⊎◌}
-use Rattle.std.specs.Prelude.{IfErr, IfOk}
+use Rattle.std.specs.Prelude.{All, Err, List, None, Ok, Option, Result, Some, [], replicate, suc, true, vec_len, zero}
+use Rattle.std.specs.Prelude.{IfErr, IfOk, ℕ, ◌≡◌, ◌⊎◌}
 use Rattle.c_handles.specs.Owned.{mark}
 use Rattle.nvme_model.specs.Config.{config_fault, config_fault_number}
 use Rattle.nvme_model.specs.Kept.{ControllerInvariant}
+use Rattle.nvme_model.specs.declared.array.Range.{Range}
 use Rattle.nvme_model.specs.declared.config.ConfigFault.{ConfigFault}
 use Rattle.nvme_model.specs.declared.config.ConfigNumbers.{ConfigNumbers}
 use Rattle.nvme_model.specs.declared.step.Step.{Step}
@@ -29,12 +30,23 @@ disk_config d = d.config
 abbrev pub disk_engine : Disk → Engine
 disk_engine d = arc_value d.engine
 
--- A disk of this configuration whose controller has no history, with passes for so many hosts.
-pub record IsNewDisk (c : ConfigNumbers) (hosts : ℕ) (d : Disk) : Type 0 where
+-- the blocks of its slots
+abbrev pub disk_slots : Disk → Range
+disk_slots d = d.slots
+
+-- the numbers of the hosts that were made of it, by completion queue, and 0 where none was made
+abbrev pub hosts_had : Disk → List ℕ
+hosts_had d = d.numbers
+
+-- A disk of this configuration with these slots, whose controller has no history, with passes for so many hosts, of
+-- which none was made.
+pub record IsNewDisk (c : ConfigNumbers) (hosts : ℕ) (slots : Range) (d : Disk) : Type 0 where
   pub config : d.config ≡ c
+  pub slots_are : d.slots ≡ slots
   pub server : IsFreshPass (disk_engine d) c d.server
   pub passes : All (IsFreshPass (disk_engine d) c) d.passes.items
   pub count : vec_len d.passes ≡ hosts
+  pub none : d.numbers ≡ replicate c.cqs 0
   pub idle : d.work ≡ None
   pub opening : opening_of (disk_engine d) ≡ []
 
@@ -49,7 +61,9 @@ MayRefuseDisk c o number =
 pub record IsSameDisk (d e : Disk) : Type 0 where
   pub config : e.config ≡ d.config
   pub engine : e.engine ≡ d.engine
+  pub slots : e.slots ≡ d.slots
   pub passes : e.passes ≡ d.passes
+  pub numbers : e.numbers ≡ d.numbers
   pub server : IsSame d.server e.server
 
 -- what a Fetch gives: the Work, which is kept; or why there is none
@@ -107,13 +121,15 @@ abbrev pub Works : ℕ → Disk → Disk → Type 0
 Works zero d e = e ≡ d
 Works (suc n) d e = (mid : Disk) × Works n d mid × TaskTells mid e 0
 
--- Tasks are made, and then one more is asked for, whose number is told: as 0 where none was left.
+-- Tasks are made until one isn't, whose number is told: as 0 where none was left. Only behind 2^64 - 1 tasks is one
+-- that is made the last.
 pub record Finishes (d e : Disk) (number : ℕ) : Type 0 where
   pub count : ℕ
   pub before : Disk
   pub works : Works count d before
   pub last : ℕ
   pub asked : TaskTells before e last
+  pub most : last ≡ 0 → count ≡ 18446744073709551615
   pub told : number ≡ end_number last
 
 -- A Fetch is asked for. Where a Work is kept then, it is finished; else the number of why none was fetched is told.

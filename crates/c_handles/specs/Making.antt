@@ -1,5 +1,6 @@
 -- What contracts say of making a driver of a disk.
-use Rattle.std.specs.Prelude.{None, [], true, vec_capacity, vec_len, ℕ, ◌<◌, ◌∷◌, ◌≡◌, ◌⊎◌}
+use Rattle.std.specs.Prelude.{Bool, None, [], false, set, true, vec_capacity, vec_len, ℕ, ◌-◌, ◌<◌, ◌∷◌, ◌≡◌, ◌≤◌}
+use Rattle.std.specs.Prelude.{◌⊎◌}
 use Rattle.nvme_model.specs.Config.{completion_queue}
 use Rattle.nvme_model.specs.Refusals.{no_queue}
 use Rattle.nvme_model.specs.declared.array.Range.{Range}
@@ -12,6 +13,7 @@ use Rattle.driver_cas.specs.declared.driver.Driver.{Driver}
 use Rattle.driver_cas.specs.declared.port.Port.{Ghosts}
 use Rattle.driver_cas.specs.Ports.{counted_of, engine_of, pass_of, queue_of}
 use Rattle.driver_cas.specs.declared.shared_port.SharedPort.{SharedPort}
+use Rattle.c_handles.specs.HostNumbers.{has_host, has_number}
 use Rattle.c_handles.specs.declared.disk.Disk.{Disk}
 
 -- how many hosts can be made of a disk yet
@@ -22,17 +24,35 @@ passes_left d = vec_len d.passes
 abbrev pub HasRoom : Disk → Type 0
 HasRoom d = vec_len d.passes < vec_capacity d.passes
 
--- why no host was made: its number is 0, there is no such submission queue, all passes are used, or memory was refused
+-- a host of the disk had the completion queue of this submission queue
+abbrev pub is_queue_used : Disk → ℕ → Bool
+is_queue_used d queue = has_host d.numbers (completion_queue d.config queue)
+
+-- why no host was made: its number is 0, there is no such submission queue, a host had the number or the completion
+-- queue before, all passes are used, or memory was refused
 abbrev pub MayRefuseHost : Disk → ℕ → ℕ → ℕ → Type 0
 MayRefuseHost d number queue told =
     ((told ≡ 115) × (number ≡ 0))
     ⊎ ((told ≡ 1) × (no_queue d.config queue ≡ true))
+    ⊎ ((told ≡ 124) × (has_number d.numbers number ≡ true))
+    ⊎ ((told ≡ 125) × (is_queue_used d queue ≡ true))
     ⊎ ((told ≡ 114) × (passes_left d ≡ 0))
     ⊎ (told ≡ 11)
 
--- the same disk, but for how many passes are left
+-- No host had the number, nor the completion queue of the submission queue, which is there.
+pub record IsNewcomer (d : Disk) (number queue : ℕ) : Type 0 where
+  pub there : (1 ≤ queue) × (queue ≤ d.config.pairs)
+  pub number_new : has_number d.numbers number ≡ false
+  pub queue_new : is_queue_used d queue ≡ false
+
+-- It is noted that the host of this number was made on the completion queue of this submission queue.
+abbrev pub IsNoted : Disk → Disk → ℕ → ℕ → Type 0
+IsNoted d e number queue = e.numbers ≡ set d.numbers (completion_queue d.config queue - 1) number
+
+-- the same disk, but for how many passes are left, and for which hosts are noted
 pub record HasGiven (d e : Disk) : Type 0 where
   pub config : e.config ≡ d.config
+  pub slots : e.slots ≡ d.slots
   pub engine : e.engine ≡ d.engine
   pub server : e.server ≡ d.server
   pub work : e.work ≡ d.work

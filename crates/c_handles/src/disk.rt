@@ -2,31 +2,39 @@
 
 ghost use Rattle.std.specs.Arc.{arc_value};
 ghost use Rattle.std.specs.Option.{ForSome};
-ghost use Rattle.std.specs.Prelude.{◌≡◌, All};
-ghost use Rattle.work_queue.specs.Engines.{IsFreshPass, IsPassOfEngine, IsWorkOf, fetch_declined};
+ghost use Rattle.std.specs.Prelude.{[], ◌+◌, ◌≡◌, ◌≤◌, All, IfOk, length, vec_len};
+ghost use Rattle.work_queue.specs.Engines.{IsFreshPass, IsPassOfEngine, IsWorkOf, fetch_declined, opening_of};
 ghost use Rattle.c_handles.specs.Answers.{declined_number, end_number};
 
+use crate::host_numbers::HostNumbers;
 use crate::numbers::{NOTHING_READY, UNFINISHED};
 use history::Config;
 use meet_lock::{Declined, Pass, Unmade};
+use nvme_model::array::Range;
 use nvme_model::refusal::Why;
 use std::alloc::{AllocError as NoMemory, Global};
 use std::sync::Arc;
 use step_core::{Core, FetchCall, Refused};
 use work_queue::{Engine, Work};
 
-/// A controller, who serves it, and the passes of the hosts that aren't made yet.
+/// A controller, who serves it, its slots, and the passes of the hosts that aren't made yet.
 #[derive(Drop)]
 pub struct Disk {
     pub(crate) config: Config,
+    // The blocks of its slots, of which there may be none: no host writes there but by claims, releases and takeovers.
+    pub(crate) slots: Range,
     pub(crate) engine: Arc<Engine>,
     pub(crate) server: Pass<Core>,
     pub(crate) passes: Vec<Pass<Core>>,
+    // Of the hosts that were made.
+    pub(crate) numbers: HostNumbers,
     // What was fetched and isn't finished.
     pub(crate) work: Option<Work>,
     ghost configured: { server.seat.me.0.config ≡ config },
     ghost serves: { IsPassOfEngine (arc_value engine) server },
     ghost spares: { All (IsFreshPass (arc_value engine) config) passes.items },
+    ghost inside: { slots.slba + slots.blocks ≤ 65536 },
+    ghost queues: { length numbers ≡ config.cqs },
     ghost working: { ForSome work (IsWorkOf (arc_value engine)) },
 }
 
@@ -64,26 +72,52 @@ fn ended(told: u32) -> u32
     }
 }
 
-impl Disk {
-    ghost use Rattle.std.specs.Prelude.{IfOk};
-    ghost use Rattle.c_handles.specs.Disks.{FetchTells, Finishes, IsNewDisk, ServesDisk, TaskTells};
+// An engine of a controller with no history, a pass that serves, and passes for so many hosts.
+fn engine_of(
+    alloc: Global,
+    config: Config,
+    hosts: u16,
+) -> Result<(Arc<Engine>, Pass<Core>, Vec<Pass<Core>>), NoMemory>
+    ensures server { IfOk result (λ o. IsFreshPass (arc_value o.0) config o.1) }
+    ensures passes { IfOk result (λ o. All (IsFreshPass (arc_value o.0) config) o.2.items) }
+    ensures count { IfOk result (λ o. vec_len o.2 ≡ hosts) }
+    ensures opening { IfOk result (λ o. opening_of (arc_value o.0) ≡ []) }
+{
+    let (engine, mut passes) = Engine::of_config(alloc, config, usize::from(hosts) + 1)?;
+    let server = passes.pop().unwrap();
+    let Ok(engine) = Arc::new(alloc, engine) else {
+        return Err(NoMemory);
+    };
+    Ok((engine, server, passes))
+}
 
-    /// A controller of this configuration with no history, and passes for so many hosts.
-    pub fn of(alloc: Global, config: Config, hosts: u16) -> Result<Disk, NoMemory>
-        ensures { IfOk result (IsNewDisk config hosts) }
+impl Disk {
+    ghost use Rattle.c_handles.specs.Disks.{FetchTells, Finishes, IsNewDisk, ServesDisk, TaskTells, disk_slots};
+
+    /// A controller of this configuration with no history, passes for so many hosts, and these slots.
+    pub fn of(alloc: Global, config: Config, hosts: u16, slots: Range) -> Result<Disk, NoMemory>
+        requires slots { slots.slba + slots.blocks ≤ 65536 }
+        ensures { IfOk result (IsNewDisk config hosts slots) }
     {
-        let (engine, mut passes) = Engine::of_config(alloc, config, usize::from(hosts) + 1)?;
-        let server = passes.pop().unwrap();
-        let Ok(engine) = Arc::new(alloc, engine) else {
-            return Err(NoMemory);
-        };
+        let numbers = HostNumbers::none(alloc, config.numbers().cqs)?;
+        let (engine, server, passes) = engine_of(alloc, config, hosts)?;
         Ok(Disk {
             config,
+            slots,
             engine,
             server,
             passes,
+            numbers,
             work: None,
         })
+    }
+
+    /// The blocks of its slots.
+    pub fn slots(&self) -> Range
+        ensures value { result ≡ disk_slots self.now }
+        ensures inside { result.slba + result.blocks ≤ 65536 }
+    {
+        self.slots
     }
 
     /// Fetches the next command, or pair, of a submission queue, and keeps its Work.

@@ -5,6 +5,7 @@
 mod configuration;
 mod disk;
 mod disk_handle;
+mod host_numbers;
 mod making;
 pub mod numbers;
 mod owner;
@@ -14,6 +15,6 @@ mod pieces;
 pub use crate::configuration::{GivenConfig, config_of};
 pub use crate::disk::Disk;
 pub use crate::disk_handle::DiskHandle;
-pub use crate::making::{give_driver, take_back};
+pub use crate::making::{give_driver, note_host, take_back};
 pub use crate::owner::Owner;
 pub use crate::pieces::{Piece, piece_of};

@@ -15,3 +15,7 @@ pub const UNFINISHED: u32 = 113;
 pub const NO_HOST: u32 = 114;
 
 pub const BAD_NUMBER: u32 = 115;
+
+pub const USED_NUMBER: u32 = 124;
+
+pub const USED_QUEUE: u32 = 125;

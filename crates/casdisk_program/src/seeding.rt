@@ -1,5 +1,7 @@
 //! The command `race` by turns that seeds draw.
 
+ghost use Rattle.casdisk_program.specs.Racing.{WritesInto, deaths_in};
+
 use race::{CrashFault, RaceFault, run_crash_race, run_race, run_seeded_race};
 use race_numbers::{Bias, Race};
 use std::io::{Result as IoResult, Write};
@@ -170,13 +172,19 @@ fn drawn_into<R: Wait + AllocGlobal, W: Write>(
     seed: u64,
     draws: &Draws,
     writer: &mut W,
-) -> Result<(), RaceEnd> {
+) -> Result<(), RaceEnd>
+    ensures { WritesInto race.now draws.now.crash result (W.contents writer.old) (W.contents writer.new) }
+{
     let alloc = rt.alloc();
     match draws.crash {
-        Some(crash) => run_crash_race(rt, alloc, race, &draws.bias, crash, seed, writer).map_err(
-            RaceEnd::Crash,
-        ),
-        None => run_seeded_race(rt, alloc, race, &draws.bias, seed, writer).map_err(RaceEnd::Race),
+        Some(crash) => match run_crash_race(rt, alloc, race, &draws.bias, crash, seed, writer) {
+            Ok(()) => Ok(()),
+            Err(fault) => Err(RaceEnd::Crash(fault)),
+        },
+        None => match run_seeded_race(rt, alloc, race, &draws.bias, seed, writer) {
+            Ok(()) => Ok(()),
+            Err(fault) => Err(RaceEnd::Race(fault)),
+        },
     }
 }
 
@@ -186,9 +194,14 @@ pub(crate) fn race_into<R: Threads + Wait + Sync + AllocGlobal, W: Write>(
     race: &Race,
     turns: Turns,
     writer: &mut W,
-) -> Result<(), RaceEnd> {
+) -> Result<(), RaceEnd>
+    ensures { WritesInto race.now (deaths_in turns) result (W.contents writer.old) (W.contents writer.new) }
+{
     match turns {
-        Turns::Threads => run_race(rt, rt.alloc(), race, writer).map_err(RaceEnd::Race),
+        Turns::Threads => match run_race(rt, rt.alloc(), race, writer) {
+            Ok(()) => Ok(()),
+            Err(fault) => Err(RaceEnd::Race(fault)),
+        },
         Turns::Seed(seed, draws) => drawn_into(rt, race, seed, &draws, writer),
     }
 }

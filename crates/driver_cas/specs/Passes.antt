@@ -1,7 +1,7 @@
 -- The events of a pass.
 use Rattle.std.specs.Prelude.{List, ℕ, ◌≡◌}
-use Rattle.nvme_model.specs.Passes.{IsBeginning}
-use Rattle.meet_lock.specs.Passes.{IsSame, config_of, mine, number, seen}
+use Rattle.meet_lock.specs.Lock.{ExtendsByPasses}
+use Rattle.meet_lock.specs.Passes.{IsSame, config_of, mine, number, passes_of, seen}
 use Rattle.work_queue.specs.Engines.{EnginePass}
 use Rattle.driver_calls.specs.Events.{events}
 use Rattle.driver_calls.specs.Views.{PortView}
@@ -15,8 +15,8 @@ view_at n p = record { config = config_of p; queue = n; pass = number p; seen = 
 abbrev pub log_at : ℕ → EnginePass → List PortEvent
 log_at n p = events (config_of p) n (number p) (seen p)
 
--- the second is the first, which has seen what it had seen, and maybe more, and added no entry
+-- the second is the first, which has seen what it had seen, and maybe more, of passes alone, and added no entry
 pub record SawOn (p q : EnginePass) : Type 0 where
   pub same : IsSame p q
   pub mine_stay : mine q ≡ mine p
-  pub goes_on : IsBeginning (seen p) (seen q)
+  pub goes_on : ExtendsByPasses (passes_of p) (seen p) (seen q)

@@ -4,6 +4,7 @@ use Rattle.nvme_model.specs.Passes.{entries}
 use Rattle.nvme_model.specs.Refusals.{refusal}
 use Rattle.nvme_model.specs.declared.step.Step.{Step}
 use Rattle.nvme_model.specs.declared.submission.Submission.{Submission}
+use Rattle.meet_lock.specs.Lock.{ExtendsByPasses}
 use Rattle.meet_lock.specs.Passes as passes
 use Rattle.work_queue.specs.Engines.{EnginePass}
 use Rattle.work_queue.specs.declared.engine.Engine.{Engine}
@@ -40,12 +41,13 @@ view_of p = view_at p.queue p.pass
 abbrev pub steps_of : SharedPort → ℕ
 steps_of p = length (passes.mine p.pass)
 
--- The second is the first at a later time, of the same engine, which has as many passes, and its pass has made no steps
--- but those of its log. One of which each Reap asks stays so.
+-- The second is the first at a later time, of the same engine, which has as many passes. What its pass has seen since
+-- is of passes alone, and it has made no steps but those of its log. One of which each Reap asks stays so.
 pub record PortFollows (a b : SharedPort) : Type 0 where
   pub same_lock : b.pass.seat.table_id ≡ a.pass.seat.table_id
   pub same_passes : passes.passes_of b.pass ≡ passes.passes_of a.pass
   pub view : Views.ViewFollows (view_of a) (view_of b)
+  pub of_passes : ExtendsByPasses (passes.passes_of a.pass) (passes.seen a.pass) (passes.seen b.pass)
   pub sole : steps_of b + length (log_of (view_of a)) ≡ steps_of a + length (log_of (view_of b))
   pub asks : a.counted ≡ None → b.counted ≡ None
 

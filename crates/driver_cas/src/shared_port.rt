@@ -176,7 +176,9 @@ impl<'a> Port for SharedPort<'a> {
     ghost use Rattle.driver_calls.proofs.Views.{follows_on, follows_self, owns_same, view_tells};
     ghost use Rattle.driver_calls.specs.Views.{AnswerSays, log_of, owns as view_owns};
     ghost use Rattle.driver_cas.specs.Ports.{PortFollows, IsPublished, IsReapAnswer, IsRefused, steps_of, view_of};
-    ghost use Rattle.std.proofs.Common.{arith, refl, ◌∙◌};
+    ghost use Rattle.meet_lock.proofs.Beginnings.{begins-more, begins-same};
+    ghost use Rattle.meet_lock.specs.Lock.{ExtendsByPasses};
+    ghost use Rattle.std.proofs.Common.{arith, refl, subst, ℕ, ◌∙◌};
 
     ghost log = { λ p. log_of (view_of p) };
 
@@ -211,6 +213,7 @@ impl<'a> Port for SharedPort<'a> {
       same_lock = refl;
       same_passes = refl;
       view = follows_self (view_of a);
+      of_passes = begins-same (passes_of a.pass) (seen a.pass);
       sole = refl;
       asks = λ x. x;
     } };
@@ -219,6 +222,8 @@ impl<'a> Port for SharedPort<'a> {
       same_lock = y.same_lock ∙ x.same_lock;
       same_passes = y.same_passes ∙ x.same_passes;
       view = follows_on (view_of a) (view_of b) (view_of c) x.view y.view;
+      of_passes = begins-more (passes_of a.pass) (seen a.pass) (seen b.pass) (seen c.pass) x.of_passes
+          (subst (λ (n : ℕ). ExtendsByPasses n (seen b.pass) (seen c.pass)) x.same_passes y.of_passes);
       sole = let h = x.sole in let k = y.sole in omega arith;
       asks = λ h. y.asks (x.asks h);
     } };

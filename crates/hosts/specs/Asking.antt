@@ -1,6 +1,8 @@
 -- What came of what a loop asked for.
-use Rattle.std.specs.Prelude.{ℕ}
+use Rattle.std.specs.Prelude.{ℕ, ◌∷◌, ◌≡◌}
+use Rattle.nvme_model.specs.History.{Past}
 use Rattle.nvme_model.specs.Passes.{entries}
+use Rattle.nvme_model.specs.declared.entry.Entry.{Entry}
 use Rattle.meet_lock.specs.Passes.{config_of, seen}
 use Rattle.work_queue.specs.Posted.{IsAnswerPosted}
 use Rattle.shared_system.specs.Callers.{IsPushableWork}
@@ -13,6 +15,11 @@ use Rattle.hosts.specs.declared.attempting.TriedTask.{TriedTask}
 abbrev pub IsNoWork : Fetched → Type 0
 IsNoWork (Fetched.Work w) = ⊥
 IsNoWork _ = Unit {0}
+
+-- the ticket has one more entry where the task was made, and else those that it had
+abbrev pub HasEntries : Past → Past → TriedTask → Type 0
+HasEntries before after (TriedTask.Made a) = (e : Entry) × (after ≡ e ∷ before)
+HasEntries before after _ = after ≡ before
 
 -- the task wasn't made
 abbrev pub IsNotMade : TriedTask → Type 0

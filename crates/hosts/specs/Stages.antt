@@ -1,5 +1,7 @@
 -- What a fetcher and a worker have in hand from one turn to the next.
-use Rattle.std.specs.Prelude.{length, true, ℕ, ◌%◌, ◌+◌, ◌≡◌, ◌≤◌, ◌⊎◌}
+use Rattle.std.specs.Prelude.{length, true, ℕ, ◌%◌, ◌+◌, ◌∷◌, ◌≡◌, ◌≤◌, ◌⊎◌}
+use Rattle.nvme_model.specs.History.{Past}
+use Rattle.nvme_model.specs.declared.entry.Entry.{Entry}
 use Rattle.ticket_laws.specs.Tasks.{own_done}
 use Rattle.work_queue.specs.Duties.{duty_of}
 use Rattle.work_queue.specs.Engines as engine
@@ -49,12 +51,25 @@ IsRestOf w WorkStage.Idle = own_done (duty_of w.work) (engine.its w) w.work.tick
 IsRestOf w (WorkStage.Works v) = v ≡ w
 IsRestOf w (WorkStage.Tells v n) = ⊥
 
--- A worker's turn: a Work is the same ticket's behind a task, and a notice stays until it is pushed.
+-- The stage behind a task that was made of this Work: it goes on, and is left only once all that it has to do is done.
+abbrev pub IsStageBehind : Work → WorkStage → Type 0
+IsStageBehind w WorkStage.Idle = IsRestOf w WorkStage.Idle
+IsStageBehind w (WorkStage.Works v) = v.work ≡ w.work
+IsStageBehind w (WorkStage.Tells v n) = v.work ≡ w.work
+
+-- all that the Work has to do is done, by the entries that its ticket has, or by one more
+pub record IsDoneBy (w : Work) : Type 0 where
+  pub past : Past
+  pub one : (past ≡ engine.its w) ⊎ ((e : Entry) × (past ≡ e ∷ engine.its w))
+  pub done : own_done (duty_of w.work) past w.work.ticket ≡ true
+
+-- A worker's turn: a Work is the same ticket's behind a task, and left only once all is done. A notice stays until it
+-- is pushed.
 abbrev pub IsWorkTurn : WorkStage → WorkStage → Type 0
 IsWorkTurn WorkStage.Idle WorkStage.Idle = Unit {0}
 IsWorkTurn WorkStage.Idle (WorkStage.Works w) = Unit {0}
 IsWorkTurn WorkStage.Idle (WorkStage.Tells w n) = ⊥
-IsWorkTurn (WorkStage.Works w) WorkStage.Idle = Unit {0}
+IsWorkTurn (WorkStage.Works w) WorkStage.Idle = IsDoneBy w
 IsWorkTurn (WorkStage.Works w) (WorkStage.Works v) = v.work ≡ w.work
 IsWorkTurn (WorkStage.Works w) (WorkStage.Tells v n) = v.work ≡ w.work
 IsWorkTurn (WorkStage.Tells w n) WorkStage.Idle = IsRestOf w WorkStage.Idle

@@ -6,7 +6,7 @@ ghost use Rattle.work_queue.specs.Duties.{duty_of, task_step};
 ghost use Rattle.work_queue.specs.Engines as engine;
 ghost use Rattle.hosts.specs.Declining.{IsTaskDeclined};
 ghost use Rattle.shared_system.specs.Callers.{Continues, IsCallerOf};
-ghost use Rattle.hosts.specs.Asking.{IsNotMade, IsTaskTold};
+ghost use Rattle.hosts.specs.Asking.{HasEntries, IsNotMade, IsTaskTold};
 
 use crate::gate::Gate;
 use meet_lock::Declined;
@@ -50,6 +50,7 @@ pub(crate) fn attempt<G: Gate>(
     ensures goes { Continues system.now caller.old caller.new }
     ensures work { engine.IsWorkOf system.now.engine work.new × (work.new.work ≡ work.old.work)
         × (work.new.queue ≡ work.old.queue) }
+    ensures entries { HasEntries (engine.its work.old) (engine.its work.new) result }
     ensures told { IsTaskTold caller.new work.new.queue result }
 {
     match system.engine.attempt_work(&mut caller.pass, work, task) {

@@ -6,7 +6,7 @@ ghost use Rattle.meet_lock.specs.Passes.{config_of, seen};
 ghost use Rattle.work_queue.specs.Posted.{IsAnswerPosted};
 ghost use Rattle.work_queue.specs.Engines as engine;
 ghost use Rattle.shared_system.specs.Callers.{AreNoticesOf, Continues, IsCallerOf};
-ghost use Rattle.hosts.specs.Stages.{HasNotices, IsPushableNotice, IsRestOf, IsWorkStage, IsWorkTurn};
+ghost use Rattle.hosts.specs.Stages.{HasNotices, IsPushableNotice, IsRestOf, IsStageBehind, IsWorkStage, IsWorkTurn};
 ghost use Rattle.hosts.specs.declared.working.WorkStage.{WorkStage};
 
 use crate::attempting::{TriedTask, attempt};
@@ -86,7 +86,7 @@ fn made<G: Gate>(
     requires told { IsAnswerPosted (config_of caller.old.pass) (entries (seen caller.old.pass)) work.queue answer }
     ensures goes { Continues system.now caller.old caller.new }
     ensures stage { IfOk result (IsWorkStage system.now) }
-    ensures next { IfOk result (IsWorkTurn (WorkStage.Works work)) }
+    ensures next { IfOk result (IsStageBehind work) }
 {
     match answer {
         Answer::Granted { .. } => {
@@ -106,7 +106,7 @@ fn made<G: Gate>(
 }
 
 // Asks for the next task of a Work.
-#[tactic(auto, using(shared_system::proofs::Going::goes_same))]
+#[tactic(auto, using(shared_system::proofs::Going::goes_same, crate::proofs::Turns::done_now))]
 fn works<G: Gate>(
     system: &System<G>,
     caller: &mut CallerPasses,

@@ -9,15 +9,13 @@ use Rattle.work_queue.specs.declared.notice.Notice.{Notice}
 use Rattle.work_queue.specs.declared.queue.QueuePass.{QueuePass}
 use Rattle.shared_system.specs.Callers.{IsPlaceAt}
 use Rattle.shared_system.specs.declared.system.System.{System}
-use Rattle.driver_calls.proofs.Views.{follows_self}
 use Rattle.driver_calls.specs.Views.{since}
 use Rattle.driver_calls.specs.declared.event.PortEvent.{PortEvent}
 use Rattle.driver_cas.specs.Drivers.{HasSettings, area_of, made, port_of}
-use Rattle.driver_cas.specs.Ports.{PortFollows, view_of}
 use Rattle.driver_cas.specs.declared.driver.Driver.{Driver}
 use Rattle.driver_cas.specs.declared.port.Port.{Ghosts}
 use Rattle.driver_cas.specs.declared.shared_port.SharedPort.{SharedPort}
-use Rattle.driver_cas.proofs.Listening.{follows_later}
+use Rattle.driver_cas.proofs.Listening.{follows_later, follows_same}
 use Rattle.slot_alloc.specs.Areas.{area, block_of}
 use Rattle.slot_alloc.specs.Claims.{IsClaimingOf, IsHeldBy, IsReleasingOf, IsUnreleased}
 use Rattle.slot_alloc.specs.declared.claim.Claim.{Claim}
@@ -33,11 +31,6 @@ use Rattle.race_hosts.specs.declared.owned.Host.{Host}
 use Rattle.race_hosts.specs.Stages.{IsStageOf, are_over}
 use Rattle.race_hosts.specs.declared.stage.RoundStage.{RoundStage}
 use Rattle.race_hosts.specs.declared.stage.RoundStage.TheVariants as stage
-
--- a port is itself at a later time, and later than a later one
-later_same : (a : SharedPort) → PortFollows a a
-later_same a =
-    record { same_lock = refl; same_passes = refl; view = follows_self (view_of a); sole = refl; asks = λ x. x }
 
 module _ {P : Type 0} {g : Ghosts P} where
   settings_on : (d e f : Driver P g) → HasSettings d e → HasSettings e f → HasSettings d f
@@ -58,7 +51,7 @@ module _ {G : Type 0} where
         settings = record { began = refl; host = refl; acwu = refl; slots = refl; queues = refl };
         slots = refl;
         queue = refl;
-        later = later_same (port_of h.driver);
+        later = follows_same (port_of h.driver);
       }
 
   pub goes_far : (system : System G) (h k m : Host) → HostContinues system h k → HostContinues system k m

@@ -84,8 +84,12 @@ pub(crate) fn leave_out_lines<Q: Question>(
         Ends Q.asks Q.stops first question.new whole lines.new.items
         (n + vec_len lines.old * (vec_len lines.old + 1)) result }
 {
-    if scan(alloc, lines, question)? == 0 {
-        return Ok(());
+    let mut from = scan(alloc, lines, question)?;
+    'rounds: while from != 0 {
+        from = match scan(alloc, lines, question) {
+            Ok(from) => from,
+            Err(why) => return Err(why),
+        };
     }
-    leave_out_lines(alloc, lines, question)
+    Ok(())
 }

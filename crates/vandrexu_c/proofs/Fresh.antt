@@ -1,5 +1,5 @@
 -- A host that was made just now.
-use Rattle.std.proofs.Common.{Bool, List, Some, [], ap, arith, length, subst, suc, sym, take, zero, ℕ, ◌-◌}
+use Rattle.std.proofs.Common.{Bool, List, Some, [], ap, arith, inl, inr, length, subst, suc, sym, take, zero, ℕ, ◌-◌}
 use Rattle.std.proofs.Common.{◌∙◌, ◌∷◌, ◌≡◌}
 use Rattle.std.specs.Prelude.{All, slice_get}
 use Rattle.std.proofs.lemmas.List.Elements.{All-head, All-tail}
@@ -12,7 +12,8 @@ use Rattle.nvme_model.specs.declared.config.ConfigNumbers.{ConfigNumbers}
 use Rattle.work_queue.specs.declared.engine.Engine.{Engine}
 use Rattle.driver_cas.specs.contracts.shared_port.SharedPortPort.TheImpl.{ghosts}
 use Rattle.driver_cas.specs.declared.shared_port.SharedPort.{SharedPort}
-use Rattle.c_handles.specs.Making.{IsNewDriver}
+use Rattle.c_handles.specs.Making.{IsNewDriver, MayRefuseHost}
+use Rattle.c_handles.specs.declared.disk.Disk.{Disk}
 use Rattle.slot_log_laws.specs.SlotRules.{keeps_slot_rules}
 use Rattle.slot_alloc.specs.SlotRules.{KeepsSlotRules}
 use Rattle.vandrexu_c.specs.SlotMaking.{IsFreshDriver}
@@ -48,3 +49,19 @@ nothing_at d took holds all i k there = subst (IsHoldAt d took i) (sym (all_at h
     all_at (h ∷ hs) a zero w e = subst (λ (v : Hold). v ≡ Hold.Nothing) (some_one h w e)
         (All-head (λ v. v ≡ Hold.Nothing) h hs a)
     all_at (h ∷ hs) a (suc j) w e = all_at hs (All-tail (λ v. v ≡ Hold.Nothing) h hs a) j w e
+
+-- why no host is made is never told as 0
+pub refused_told : (d : Disk) (number queue told : ℕ) → MayRefuseHost d number queue told → told ≡ 0 → ⊥
+refused_told d number queue told x none = elim x [
+  | inl a ↦ omega (arith, a.0, none)
+  | inr y ↦ elim y [
+    | inl a ↦ omega (arith, a.0, none)
+    | inr y2 ↦ elim y2 [
+      | inl a ↦ omega (arith, a.0, none)
+      | inr y3 ↦ elim y3 [
+        | inl a ↦ omega (arith, a.0, none)
+        | inr y4 ↦ elim y4 [ inl a ↦ omega (arith, a.0, none) | inr a ↦ omega (arith, a, none) ]
+      ]
+    ]
+  ]
+]

@@ -147,10 +147,11 @@ pub record GivesBack (after : Result (Releasing SharedPort) (HeldSlot × Fault) 
   pub holds_are : j.holds ≡ after answer
   pub same : (j.slots ≡ h.slots) × (j.took_over ≡ h.took_over)
 
--- those of slot i
+-- the release of what the host claimed at slot i
 abbrev pub ReleaseBegins : SlotState → SlotState → ℕ → Claim → ℕ → Type 0
 ReleaseBegins h j i c number = Releases (released_holds h.holds i) h j c number
 
+-- and of what it took over there
 abbrev pub GiveBackBegins : SlotState → SlotState → ℕ → HeldSlot → ℕ → Type 0
 GiveBackBegins h j i s number = GivesBack (released_holds h.holds i) h j s number
 

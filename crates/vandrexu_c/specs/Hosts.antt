@@ -1,5 +1,6 @@
 -- What contracts say of a host.
 use Rattle.std.specs.Prelude.{None, Result, Some, [], ℕ, ◌≡◌}
+use Rattle.nvme_model.specs.declared.array.Range.{Range}
 use Rattle.nvme_model.specs.declared.config.ConfigNumbers.{ConfigNumbers}
 use Rattle.work_queue.specs.declared.engine.Engine.{Engine}
 use Rattle.driver_calls.specs.declared.request.CallData.{CallData}
@@ -23,9 +24,10 @@ pub record IsHostOver (d : Driver SharedPort ghosts) (h : HostState) : Type 0 wh
   pub no_call : h.call ≡ None
   pub nothing_read : h.payload ≡ []
 
--- a host with a new driver, which has no slots, and no call, which has read nothing
-pub record IsNewHost (eng : Engine) (c : ConfigNumbers) (number queue : ℕ) (h : HostState) : Type 0 where
-  pub driver : IsNewDriver eng c number queue (record { slba = 0; blocks = 0 }) h.driver
+-- a host with a new driver, beside these slots, and no call, which has read nothing
+pub record IsNewHost (eng : Engine) (c : ConfigNumbers) (number queue : ℕ) (slots : Range) (h : HostState)
+    : Type 0 where
+  pub driver : IsNewDriver eng c number queue slots h.driver
   pub no_call : h.call ≡ None
   pub nothing_read : h.payload ≡ []
 

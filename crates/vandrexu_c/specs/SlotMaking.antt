@@ -1,16 +1,16 @@
 -- What contracts say of making a slot host of a disk.
 use Rattle.std.specs.Prelude.{All, List, None, Option, Some, [], false, if◌then◌else◌, length, nat_lt, ℕ, ◌+◌}
-use Rattle.std.specs.Prelude.{◌==◌, ◌||◌}
-use Rattle.std.specs.Prelude.{◌≡◌}
+use Rattle.std.specs.Prelude.{◌==◌, ◌||◌, ◌≡◌}
 use Rattle.c_handles.specs.Owned.{Keeps}
 use Rattle.nvme_model.specs.declared.array.Range.{Range}
 use Rattle.nvme_model.specs.declared.config.ConfigNumbers.{ConfigNumbers}
 use Rattle.work_queue.specs.declared.engine.Engine.{Engine}
 use Rattle.driver_cas.specs.Drivers.{area_of, host_of, made}
-use Rattle.c_handles.specs.Disks.{disk_config, disk_engine}
-use Rattle.c_handles.specs.Making.{HasGiven, IsNewDriver, MayRefuseHost, passes_left}
+use Rattle.c_handles.specs.Disks.{disk_config, disk_engine, disk_slots}
+use Rattle.c_handles.specs.Making.{HasGiven, IsNewDriver}
 use Rattle.c_handles.specs.declared.disk.Disk.{Disk}
 use Rattle.slot_alloc.specs.Areas.{area}
+use Rattle.vandrexu_c.specs.HostMaking.{IsGiven, IsNotGiven}
 use Rattle.vandrexu_c.specs.SlotStates.{SlotDriver, SlotState}
 use Rattle.vandrexu_c.specs.declared.slot_hold.Hold.{Hold}
 use Rattle.vandrexu_c.specs.declared.under_way.UnderWay.{UnderWay}
@@ -45,11 +45,9 @@ pub record IsNewSlotHost (eng : Engine) (c : ConfigNumbers) (number queue : ℕ)
   pub over : IsHostOver h.driver slots h
 
 -- A host was made with one of the passes, or it is told why not.
-pub record MakesSlotHost (d e : Disk) (number queue : ℕ) (slots : Range) (told : ℕ) (made : Option SlotState)
-    : Type 0 where
+pub record MakesSlotHost (d e : Disk) (number queue told : ℕ) (made : Option SlotState) : Type 0 where
   pub same : HasGiven d e
   pub done : told ≡ 0 →
-      Keeps made (IsNewSlotHost (disk_engine d) (disk_config d) number queue slots)
-      × (passes_left e + 1 ≡ passes_left d)
-  pub failed : (told ≡ 0 → ⊥) →
-      (made ≡ None) × (passes_left e ≡ passes_left d) × MayRefuseHost d number queue told
+      Keeps made (IsNewSlotHost (disk_engine d) (disk_config d) number queue (disk_slots d))
+      × IsGiven d e number queue
+  pub failed : (told ≡ 0 → ⊥) → (made ≡ None) × IsNotGiven d e number queue told

@@ -1,8 +1,7 @@
 //! The entries of a Publish.
 
-ghost use Rattle.std.specs.Prelude.{◌≡◌, ◌++◌, ◌⊎◌, IfErr, IfOk, None, OnOk, Some, List};
+ghost use Rattle.std.specs.Prelude.{◌≡◌, ◌⊎◌, IfErr, IfOk, None, Some};
 ghost use Rattle.c_handles.specs.Owned.{Keeps};
-ghost use Rattle.nvme_model.specs.declared.submission.Submission.{Submission as TheSubmission};
 ghost use Rattle.vandrexu_c.specs.Batches.{TellsPublish, submissions_of};
 ghost use Rattle.vandrexu_c.specs.OwnedStates.{OwnedState};
 
@@ -35,45 +34,31 @@ fn submission_of(alloc: Global, entry: &EntryBytes, bytes: &[u8]) -> Result<Subm
     }
 }
 
-// Adds the entries with their data; a fault by its number.
-#[tactic(auto, using(crate::proofs::Batches::too_short))]
-fn add_all(
-    alloc: Global,
-    items: &mut Vec<Submission>,
-    entries: &[EntryBytes],
-    bytes: &[u8],
-) -> Result<(), u32>
-    ensures all { OnOk result ((xs : List TheSubmission) × (submissions_of entries.now bytes.now ≡ Some xs)
-        × (items.new.items ≡ items.old.items ++ xs)) }
-    ensures fault { IfErr result (λ n. (n ≡ 11) ⊎ ((n ≡ 106) × (submissions_of entries.now bytes.now ≡ None))) }
-{
-    let Some((first, others)) = entries.split_first() else {
-        if bytes.is_empty() {
-            return Ok(());
-        }
-        return Err(BAD_ENTRY);
-    };
-    if first.count > bytes.len() {
-        return Err(BAD_ENTRY);
-    }
-    let (own, behind) = bytes.split_at(first.count);
-    let item = submission_of(alloc, first, own)?;
-    if items.push(item).is_err() {
-        return Err(NO_MEMORY);
-    }
-    add_all(alloc, items, others, behind)
-}
-
 // The entries with their data; a fault by its number.
+#[tactic(auto, using(crate::proofs::Batches::start_of))]
 fn batch_of(alloc: Global, entries: &[EntryBytes], bytes: &[u8]) -> Result<Submissions, u32>
     ensures all { IfOk result (λ xs. submissions_of entries.now bytes.now ≡ Some xs) }
     ensures fault { IfErr result (λ n. (n ≡ 11) ⊎ ((n ≡ 106) × (submissions_of entries.now bytes.now ≡ None))) }
 {
     let mut items = Vec::new(alloc);
-    match add_all(alloc, &mut items, entries, bytes) {
-        Ok(()) => Ok(Submissions::new(items)),
-        Err(number) => Err(number),
+    let mut left = entries;
+    let mut data = bytes;
+    while let Some((first, others)) = left.split_first() {
+        if first.count > data.len() {
+            return Err(BAD_ENTRY);
+        }
+        let (own, behind) = data.split_at(first.count);
+        let item = submission_of(alloc, first, own)?;
+        if items.push(item).is_err() {
+            return Err(NO_MEMORY);
+        }
+        left = others;
+        data = behind;
     }
+    if !data.is_empty() {
+        return Err(BAD_ENTRY);
+    }
+    Ok(Submissions::new(items))
 }
 
 /// Publishes all entries, or none: 0; or the number of the refusal; or 106 where `bytes` isn't just the data of the

@@ -1,6 +1,6 @@
 //! A disk: made, freed, and served.
 
-ghost use Rattle.std.specs.Prelude.{◌≡◌, IfOk, None, Some};
+ghost use Rattle.std.specs.Prelude.{◌+◌, ◌≡◌, ◌≤◌, IfOk, None, Some};
 ghost use Rattle.c_handles.specs.Owned.{Keeps};
 ghost use Rattle.c_handles.specs.Configurations.{given_numbers};
 ghost use Rattle.c_handles.specs.Disks.{FetchTells, IsNewDisk, MayRefuseDisk, ServesDisk, TaskTells};
@@ -10,19 +10,29 @@ ghost use Rattle.c_handles.specs.declared.disk.Disk.{Disk as TheDisk};
 use crate::lending::{fill, lend};
 use c_handles::{Disk, DiskHandle, GivenConfig};
 use history::Config;
+use nvme_model::array::Range;
 use std::alloc::{AllocError as NoMemory, Global};
 
-// A disk in a box.
-fn disk_of(alloc: Global, config: Config, hosts: u16) -> Result<Box<Disk>, NoMemory>
-    ensures { IfOk result (λ b. IsNewDisk config hosts b.value) }
+// The blocks of no slot.
+const NO_SLOTS: Range = Range { slba: 0, blocks: 0 };
+
+/// A disk in a box.
+pub(crate) fn disk_of(
+    alloc: Global,
+    config: Config,
+    hosts: u16,
+    slots: Range,
+) -> Result<Box<Disk>, NoMemory>
+    requires { slots.slba + slots.blocks ≤ 65536 }
+    ensures { IfOk result (λ b. IsNewDisk config hosts slots b.value) }
 {
-    let disk = Disk::of(alloc, config, hosts)?;
+    let disk = Disk::of(alloc, config, hosts, slots)?;
     Ok(Box::new(alloc, disk)?)
 }
 
-/// Makes a controller with no history and blocks of zeros, with passes for so many hosts, and puts it into the handle:
-/// 0; or the first fault of the configuration, 21 to 30; or 11 where memory is refused; or 102 where the handle owns
-/// one. The handle is then as before.
+/// Makes a controller with no history and blocks of zeros, with passes for so many hosts and no slots, and puts it into
+/// the handle: 0; or the first fault of the configuration, 21 to 30; or 11 where memory is refused; or 102 where the
+/// handle owns one. The handle is then as before.
 #[unsafe(no_mangle)]
 pub extern "C" fn vandrexu_disk_new(
     alloc: Global,
@@ -30,11 +40,12 @@ pub extern "C" fn vandrexu_disk_new(
     hosts: u16,
     disk: &mut DiskHandle,
 ) -> u32
-    ensures done { result ≡ 0 → Keeps (disk_in disk.new) (IsNewDisk (given_numbers config.now) hosts) }
+    ensures done { result ≡ 0 → Keeps (disk_in disk.new)
+        (IsNewDisk (given_numbers config.now) hosts (record { slba = 0; blocks = 0 })) }
     ensures failed { (result ≡ 0 → ⊥) → disk_in disk.new ≡ disk_in disk.old }
     ensures cause { (result ≡ 0 → ⊥) → MayRefuseDisk (given_numbers config.now) (disk_in disk.old) result }
 {
-    fill!(disk.owns(), disk, config, accepted => disk_of(alloc, accepted, hosts))
+    fill!(disk.owns(), disk, config, accepted => disk_of(alloc, accepted, hosts, NO_SLOTS))
 }
 
 /// Frees what the handle owns. Nothing is done where it owns nothing. Hosts that were made of it stay.

@@ -23,9 +23,10 @@ use c_handles::numbers::IN_USE;
 use std::alloc::Global;
 
 /// Makes a host of this number, not 0, on this submission queue, with one of the passes of the disk, and puts it into
-/// the handle: 0; or 115 for the number 0; or 1 where there is no such submission queue; or 114 where as many hosts
-/// were made as the disk was made for; or 11 where memory is refused; or 101 where the disk's handle owns nothing; or
-/// 102 where the host's owns one. But for 0, both are then as before.
+/// the handle: 0; or 115 for the number 0; or 1 where there is no such submission queue; or 124 where a host of the
+/// disk had the number before, or 125 the queue's completion queue; or 114 where as many hosts were made as the disk
+/// was made for; or 11 where memory is refused; or 101 where the disk's handle owns nothing; or 102 where the host's
+/// owns one. But for 0, both are then as before.
 #[unsafe(no_mangle)]
 #[tactic(auto, using(c_handles::proofs::Marks::none_of))]
 pub extern "C" fn vandrexu_host_new(

@@ -1,17 +1,16 @@
 //! Making a host of a disk.
 
-ghost use Rattle.std.specs.Prelude.{◌+◌, ◌≡◌, IfErr, IfOk, None, OnErr, OnOk};
-ghost use Rattle.c_handles.specs.Disks.{disk_config, disk_engine};
-ghost use Rattle.c_handles.specs.Making.{HasGiven, MayRefuseHost, passes_left};
+ghost use Rattle.std.specs.Prelude.{◌≡◌, IfErr, IfOk, None, OnOk};
+ghost use Rattle.c_handles.specs.Disks.{disk_config, disk_engine, disk_slots};
+ghost use Rattle.c_handles.specs.Making.{HasGiven};
 ghost use Rattle.vandrexu_c.specs.Hosts.{IsHostOver, IsNewHost};
-ghost use Rattle.vandrexu_c.specs.HostMaking.{MakesHost};
+ghost use Rattle.vandrexu_c.specs.HostMaking.{IsGiven, IsNotGiven, MakesHost};
 
 use crate::host::DrivenHost;
 use crate::host_handle::HostHandle;
 use c_handles::numbers::NO_MEMORY;
-use c_handles::{Disk, give_driver, take_back};
+use c_handles::{Disk, give_driver, note_host, take_back};
 use driver_cas::{Driver, SharedPort};
-use nvme_model::array::Range;
 use std::alloc::Global;
 
 // A host in a box; the driver, where memory is refused.
@@ -39,18 +38,20 @@ fn host_of(
 // Makes a host with the next of the passes; where none is made the pass stays.
 fn give(alloc: Global, disk: &mut Disk, number: u32, queue: u16) -> Result<Box<DrivenHost>, u32>
     ensures same { HasGiven disk.old disk.new }
-    ensures made { IfOk result (λ b. IsNewHost (disk_engine disk.old) (disk_config disk.old) number queue b.value) }
-    ensures one { OnOk result (passes_left disk.new + 1 ≡ passes_left disk.old) }
-    ensures kept { OnErr result (passes_left disk.new ≡ passes_left disk.old) }
-    ensures cause { IfErr result (MayRefuseHost disk.old number queue) }
+    ensures made { IfOk result (λ b. IsNewHost (disk_engine disk.old) (disk_config disk.old) number queue
+        (disk_slots disk.old) b.value) }
+    ensures given { OnOk result (IsGiven disk.old disk.new number queue) }
+    ensures cause { IfErr result (IsNotGiven disk.old disk.new number queue) }
 {
-    let none = Range { slba: 0, blocks: 0 };
-    let driver = match give_driver(alloc, disk, number, queue, none) {
+    let driver = match give_driver(alloc, disk, number, queue) {
         Ok(driver) => driver,
         Err(told) => return Err(told),
     };
     match host_of(alloc, driver) {
-        Ok(host) => Ok(host),
+        Ok(host) => {
+            note_host(disk, number, queue);
+            Ok(host)
+        }
         Err(driver) => {
             take_back(disk, driver);
             Err(NO_MEMORY)

@@ -1,7 +1,9 @@
 //! A slot host: made, freed, its calls begun and polled.
 
-ghost use Rattle.std.specs.Prelude.{◌≡◌, None, Some};
+ghost use Rattle.std.specs.Prelude.{◌≡◌, ◌≤◌, None, Some};
 ghost use Rattle.c_handles.specs.Owned.{Keeps};
+ghost use Rattle.c_handles.specs.Configurations.{given_numbers};
+ghost use Rattle.c_handles.specs.Disks.{IsNewDisk, MayRefuseDisk, disk_slots};
 ghost use Rattle.nvme_model.specs.declared.array.Range.{Range};
 ghost use Rattle.c_handles.specs.Handles.{disk_in};
 ghost use Rattle.c_handles.specs.declared.disk.Disk.{Disk as TheDisk};
@@ -10,21 +12,49 @@ ghost use Rattle.vandrexu_c.specs.SlotMaking.{MakesSlotHost, given_area};
 ghost use Rattle.vandrexu_c.specs.Polls.{PollTells};
 ghost use Rattle.vandrexu_c.specs.SlotStates.{SlotState};
 
-use crate::lending::lend;
+use crate::disk_calls::disk_of;
+use crate::lending::{fill, lend};
 use crate::numbers::BAD_AREA;
 use crate::slot_handle::SlotHandle;
 use crate::slot_making::{area_given, give_into};
 use crate::slot_reply::SlotReply;
-use c_handles::DiskHandle;
 use c_handles::numbers::IN_USE;
+use c_handles::{DiskHandle, GivenConfig};
 use nvme_model::Name;
 use std::alloc::Global;
 
-/// Makes a host of this number, not 0, on this submission queue, with so many slots from block `first` on, with one of
-/// the passes of the disk, and puts it into the handle: 0; or 123 where there is no slot, or one is behind block
-/// 65,535; or 115 for the number 0; or 1 where there is no such submission queue; or 114 where as many hosts were made
-/// as the disk was made for; or 11 where memory is refused; or 101 where the disk's handle owns nothing; or 102 where
-/// the host's owns one. But for 0, both are then as before.
+/// Makes a controller with no history and blocks of zeros, with passes for so many hosts, and with so many slots from
+/// block `first` on, and puts it into the handle: 0; or 123 where there is no slot, or one is behind block 65,535; or
+/// the first fault of the configuration, 21 to 30; or 11 where memory is refused; or 102 where the handle owns one. The
+/// handle is then as before.
+#[unsafe(no_mangle)]
+pub extern "C" fn vandrexu_slot_disk_new(
+    alloc: Global,
+    config: &GivenConfig,
+    hosts: u16,
+    first: u64,
+    count: u32,
+    disk: &mut DiskHandle,
+) -> u32
+    ensures no_area { given_area first count ≡ None → (result ≡ 123) × (disk_in disk.new ≡ disk_in disk.old) }
+    ensures done { (a : Range) → given_area first count ≡ Some a → result ≡ 0 →
+        Keeps (disk_in disk.new) (IsNewDisk (given_numbers config.now) hosts a) }
+    ensures failed { (result ≡ 0 → ⊥) → disk_in disk.new ≡ disk_in disk.old }
+    ensures cause { (a : Range) → given_area first count ≡ Some a → (result ≡ 0 → ⊥) →
+        MayRefuseDisk (given_numbers config.now) (disk_in disk.old) result }
+{
+    let Some(area) = area_given(first, count) else {
+        return BAD_AREA;
+    };
+    fill!(disk.owns(), disk, config, accepted => disk_of(alloc, accepted, hosts, area))
+}
+
+/// Makes a host of this number, not 0, on this submission queue, which claims the slots of the disk, with one of the
+/// passes of the disk, and puts it into the handle: 0; or 123 where the disk has no slots; or 115 for the number 0; or
+/// 1 where there is no such submission queue; or 124 where a host of the disk had the number before, or 125 the
+/// queue's completion queue; or 114 where as many hosts were made as the disk was made for; or 11 where memory is
+/// refused; or 101 where the disk's handle owns nothing; or 102 where the host's owns one. But for 0, both are then as
+/// before.
 #[unsafe(no_mangle)]
 #[tactic(auto, using(c_handles::proofs::Marks::none_of))]
 pub extern "C" fn vandrexu_slot_host_new(
@@ -32,27 +62,27 @@ pub extern "C" fn vandrexu_slot_host_new(
     disk: &mut DiskHandle,
     number: u32,
     queue: u16,
-    first: u64,
-    count: u32,
     host: &mut SlotHandle,
 ) -> u32
     ensures in_use { (h : SlotState) → host.old.held.host ≡ Some h →
         (result ≡ 102) × (host.new.held.host ≡ Some h) × (disk_in disk.new ≡ disk_in disk.old) }
     ensures no_disk { host.old.held.host ≡ None → disk_in disk.old ≡ None →
         (result ≡ 101) × (host.new.held.host ≡ None) × (disk_in disk.new ≡ None) }
-    ensures no_area { (d : TheDisk) → host.old.held.host ≡ None → disk_in disk.old ≡ Some d →
-        given_area first count ≡ None →
-        (result ≡ 123) × (host.new.held.host ≡ None) × (disk_in disk.new ≡ Some d) }
-    ensures makes { (d : TheDisk) (a : Range) → host.old.held.host ≡ None → disk_in disk.old ≡ Some d →
-        given_area first count ≡ Some a →
-        Keeps (disk_in disk.new) (λ e. MakesSlotHost d e number queue a result host.new.held.host) }
+    ensures no_slots { (d : TheDisk) → host.old.held.host ≡ None → disk_in disk.old ≡ Some d →
+        (disk_slots d).blocks ≡ 0 → (result ≡ 123) × (host.new.held.host ≡ None) × (disk_in disk.new ≡ Some d) }
+    ensures makes { (d : TheDisk) → host.old.held.host ≡ None → disk_in disk.old ≡ Some d →
+        1 ≤ (disk_slots d).blocks →
+        Keeps (disk_in disk.new) (λ e. MakesSlotHost d e number queue result host.new.held.host) }
 {
     if host.live != 0 {
         return IN_USE;
     }
-    lend!(alloc, disk, mut owned => match area_given(first, count) {
-        Some(area) => give_into(alloc, owned.as_mut(), number, queue, area, host),
-        None => BAD_AREA,
+    lend!(alloc, disk, mut owned => {
+        if owned.as_ref().slots().blocks == 0 {
+            BAD_AREA
+        } else {
+            give_into(alloc, owned.as_mut(), number, queue, host)
+        }
     })
 }
 

@@ -1,8 +1,9 @@
 //! Making a slot host of a disk.
 
-ghost use Rattle.std.specs.Prelude.{◌+◌, ◌≡◌, ◌≤◌, IfErr, IfOk, None, OnErr, OnOk};
-ghost use Rattle.c_handles.specs.Disks.{disk_config, disk_engine};
-ghost use Rattle.c_handles.specs.Making.{HasGiven, MayRefuseHost, passes_left};
+ghost use Rattle.std.specs.Prelude.{◌≡◌, ◌≤◌, IfErr, IfOk, None, OnOk};
+ghost use Rattle.c_handles.specs.Disks.{disk_config, disk_engine, disk_slots};
+ghost use Rattle.c_handles.specs.Making.{HasGiven};
+ghost use Rattle.vandrexu_c.specs.HostMaking.{IsGiven, IsNotGiven};
 ghost use Rattle.vandrexu_c.specs.SlotMaking.{AreNothing, IsFreshDriver, IsHostOver, IsNewSlotHost, MakesSlotHost};
 ghost use Rattle.vandrexu_c.specs.SlotMaking.{given_area};
 
@@ -11,7 +12,7 @@ use crate::slot_hold::Hold;
 use crate::slot_host::SlotHost;
 use crate::under_way::UnderWay;
 use c_handles::numbers::NO_MEMORY;
-use c_handles::{Disk, give_driver, take_back};
+use c_handles::{Disk, give_driver, note_host, take_back};
 use driver_cas::{Driver, SharedPort};
 use nvme_model::array::Range;
 use slot_alloc::Slots;
@@ -75,30 +76,27 @@ fn host_of(
 }
 
 // Makes a host with the next of the passes; where none is made the pass stays.
-fn give(
-    alloc: Global,
-    disk: &mut Disk,
-    number: u32,
-    queue: u16,
-    area: Range,
-) -> Result<Box<SlotHost>, u32>
-    requires area { (1 ≤ area.blocks) × (area.slba + area.blocks ≤ 65536) }
+fn give(alloc: Global, disk: &mut Disk, number: u32, queue: u16) -> Result<Box<SlotHost>, u32>
+    requires { 1 ≤ (disk_slots disk.old).blocks }
     ensures same { HasGiven disk.old disk.new }
-    ensures made { IfOk result (λ b. IsNewSlotHost (disk_engine disk.old) (disk_config disk.old) number queue area
-        b.value) }
-    ensures one { OnOk result (passes_left disk.new + 1 ≡ passes_left disk.old) }
-    ensures kept { OnErr result (passes_left disk.new ≡ passes_left disk.old) }
-    ensures cause { IfErr result (MayRefuseHost disk.old number queue) }
+    ensures made { IfOk result (λ b. IsNewSlotHost (disk_engine disk.old) (disk_config disk.old) number queue
+        (disk_slots disk.old) b.value) }
+    ensures given { OnOk result (IsGiven disk.old disk.new number queue) }
+    ensures cause { IfErr result (IsNotGiven disk.old disk.new number queue) }
 {
+    let area = disk.slots();
     let Ok(holds) = nothing_held(alloc, area.blocks) else {
         return Err(NO_MEMORY);
     };
-    let driver = match give_driver(alloc, disk, number, queue, area) {
+    let driver = match give_driver(alloc, disk, number, queue) {
         Ok(driver) => driver,
         Err(told) => return Err(told),
     };
     match host_of(alloc, driver, number, area, holds) {
-        Ok(host) => Ok(host),
+        Ok(host) => {
+            note_host(disk, number, queue);
+            Ok(host)
+        }
         Err(driver) => {
             take_back(disk, driver);
             Err(NO_MEMORY)
@@ -112,14 +110,13 @@ pub(crate) fn give_into(
     disk: &mut Disk,
     number: u32,
     queue: u16,
-    area: Range,
     host: &mut SlotHandle,
 ) -> u32
     requires none { host.old.held.host ≡ None }
-    requires area { (1 ≤ area.blocks) × (area.slba + area.blocks ≤ 65536) }
-    ensures { MakesSlotHost disk.old disk.new number queue area result host.new.held.host }
+    requires slots { 1 ≤ (disk_slots disk.old).blocks }
+    ensures { MakesSlotHost disk.old disk.new number queue result host.new.held.host }
 {
-    match give(alloc, disk, number, queue, area) {
+    match give(alloc, disk, number, queue) {
         Ok(made) => {
             host.put(made);
             0

@@ -58,11 +58,14 @@ pub const VANDREXU_CALL_NO_ROOM: u32 = 43;
 pub const VANDREXU_CALL_FAILED: u32 = 44;
 pub const VANDREXU_CALL_BUSY: u32 = 45;
 pub const VANDREXU_CALL_NO_MEMORY: u32 = 46;
+pub const VANDREXU_CALL_SLOT_AREA: u32 = 47;
 pub const VANDREXU_UNFINISHED: u32 = 113;
 pub const VANDREXU_NO_HOST: u32 = 114;
 pub const VANDREXU_BAD_NUMBER: u32 = 115;
 pub const VANDREXU_IN_CALL: u32 = 116;
 pub const VANDREXU_NO_CALL: u32 = 117;
+pub const VANDREXU_USED_NUMBER: u32 = 124;
+pub const VANDREXU_USED_QUEUE: u32 = 125;
 
 // ---- What a call about slots answers besides
 
@@ -372,12 +375,17 @@ unsafe extern "C" {
     ) -> u32;
     pub fn vandrexu_host_poll(host: *mut vandrexu_host, reply: *mut vandrexu_reply) -> u32;
     pub fn vandrexu_host_data(host: *mut vandrexu_host, out: *mut u8, room: usize, needed: *mut usize) -> u32;
+    pub fn vandrexu_slot_disk_new(
+        config: *const vandrexu_config,
+        hosts: u16,
+        first: u64,
+        count: u32,
+        disk: *mut vandrexu_disk,
+    ) -> u32;
     pub fn vandrexu_slot_host_new(
         disk: *mut vandrexu_disk,
         number: u32,
         queue: u16,
-        first: u64,
-        count: u32,
         host: *mut vandrexu_slot_host,
     ) -> u32;
     pub fn vandrexu_slot_host_free(host: *mut vandrexu_slot_host);

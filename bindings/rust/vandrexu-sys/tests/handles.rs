@@ -52,7 +52,8 @@ fn so_does_the_handle_of_a_slot_host() {
     let mut reply = vandrexu_slot_reply { kind: 9, ..Default::default() };
     unsafe {
         for _ in 0..2 {
-            assert_eq!(vandrexu_slot_host_new(&mut disk, 1, 1, 2, 4, &mut host), VANDREXU_NO_HANDLE);
+            assert_eq!(vandrexu_slot_host_new(&mut disk, 1, 1, &mut host), VANDREXU_NO_HANDLE);
+            assert_eq!(vandrexu_slot_host_new(&mut disk, 0, 0, &mut host), VANDREXU_NO_HANDLE);
             for answer in [
                 vandrexu_slot_claim(&mut host, 0),
                 vandrexu_slot_claim_any(&mut host),
@@ -63,9 +64,14 @@ fn so_does_the_handle_of_a_slot_host() {
             ] {
                 assert_eq!(answer, VANDREXU_NO_HANDLE);
             }
-            assert_eq!(vandrexu_disk_new(&CONFIG, 2, &mut disk), VANDREXU_DONE);
-            assert_eq!(vandrexu_slot_host_new(&mut disk, 1, 1, 2, 4, &mut host), VANDREXU_DONE);
-            assert_eq!(vandrexu_slot_host_new(&mut disk, 1, 1, 2, 4, &mut host), VANDREXU_IN_USE);
+            assert_eq!(vandrexu_slot_disk_new(&CONFIG, 2, 2, 4, &mut disk), VANDREXU_DONE);
+            assert_eq!(vandrexu_slot_disk_new(&CONFIG, 2, 2, 4, &mut disk), VANDREXU_IN_USE);
+            // (of two causes the first is told: no slots, and a host's handle that owns something)
+            assert_eq!(vandrexu_slot_disk_new(&CONFIG, 2, 2, 0, &mut disk), VANDREXU_BAD_AREA);
+            assert_eq!(vandrexu_slot_host_new(&mut disk, 1, 1, &mut host), VANDREXU_DONE);
+            assert_eq!(vandrexu_slot_host_new(&mut disk, 1, 1, &mut host), VANDREXU_IN_USE);
+            vandrexu_disk_free(&mut disk);
+            assert_eq!(vandrexu_slot_host_new(&mut disk, 1, 1, &mut host), VANDREXU_IN_USE);
             for _ in 0..2 {
                 vandrexu_disk_free(&mut disk);
                 vandrexu_slot_host_free(&mut host);

@@ -88,6 +88,8 @@ errors! {
     CallNoRoom = VANDREXU_CALL_NO_ROOM, "no room in the submission queue for a call";
     /// ([`Reply::Failed`](crate::Reply::Failed) or [`SlotReply::Failed`](crate::SlotReply::Failed) in place of it.)
     CallFailed = VANDREXU_CALL_FAILED, "the call failed";
+    CallSlotArea = VANDREXU_CALL_SLOT_AREA,
+        "a Write, a Write Zeroes or a Compare and Write that touches a slot of the disk";
     CallNoSerial = VANDREXU_CALL_NO_SERIAL, "the host has used the last serial";
     /// (What is made owns something until it is dropped.)
     NoHandle = VANDREXU_NO_HANDLE, "the handle owns nothing";
@@ -117,6 +119,10 @@ errors! {
     TookOver = VANDREXU_TOOK_OVER, "the host has begun a takeover, and claims nothing any more";
     BadName = VANDREXU_BAD_NAME, "the name has a zero in it, or is of the host itself";
     BadArea = VANDREXU_BAD_AREA, "there would be no slot, or one behind block 65,535";
+    /// (Also where that host was dropped.)
+    UsedNumber = VANDREXU_USED_NUMBER, "a host of the disk had the number before";
+    /// (Also where that host was dropped.)
+    UsedQueue = VANDREXU_USED_QUEUE, "a host of the disk had the completion queue of this submission queue before";
 }
 
 impl std::error::Error for Error {}

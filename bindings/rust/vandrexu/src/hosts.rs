@@ -7,8 +7,8 @@ use vandrexu_sys as sys;
 
 /// A controller that hosts share. It is served by this handle, and freed where it and its hosts are dropped.
 ///
-/// Nothing happens by itself: what a host asks for waits until the disk serves its submission queue. Two hosts take each
-/// other's completions where their queues have one completion queue: give each its own, as with `cqs` equal to `pairs`.
+/// Nothing happens by itself: what a host asks for waits until the disk serves its submission queue. No two hosts have
+/// one number, or submission queues of one completion queue. The second is refused, also where the first was dropped.
 ///
 /// ```
 /// use vandrexu::{Config, Disk, Reply};
@@ -34,7 +34,8 @@ pub struct Disk {
 unsafe impl Send for Disk {}
 
 impl Disk {
-    /// A disk with no history, whose blocks are zeros, of which so many hosts can be made.
+    /// A disk with no history, whose blocks are zeros, of which so many hosts can be made. It has no slots: those of
+    /// [`with_slots`](Disk::with_slots) have some.
     ///
     /// # Errors
     /// The configuration's [`fault`](Config::fault); [`Error::NoMemory`].
@@ -45,22 +46,25 @@ impl Disk {
         Ok(Disk { handle: UnsafeCell::new(handle) })
     }
 
-    /// A host of this number, with a driver on this submission queue. No other host should have the number or the queue.
+    /// A host of this number, with a driver on this submission queue.
     ///
     /// ```
     /// use vandrexu::{Config, Disk, Error};
     ///
-    /// let mut disk = Disk::new(&Config::default(), 1)?;
+    /// let mut disk = Disk::new(&Config { pairs: 2, cqs: 2, ..Config::default() }, 1)?;
     /// assert_eq!(disk.host(0, 1).err(), Some(Error::BadNumber));
-    /// assert_eq!(disk.host(1, 2).err(), Some(Error::NoQueue));
+    /// assert_eq!(disk.host(1, 3).err(), Some(Error::NoQueue));
     /// let one = disk.host(1, 1)?;
-    /// assert_eq!(disk.host(2, 1).err(), Some(Error::NoHost));
+    /// assert_eq!(disk.host(1, 2).err(), Some(Error::UsedNumber));
+    /// assert_eq!(disk.host(2, 1).err(), Some(Error::UsedQueue));
+    /// assert_eq!(disk.host(2, 2).err(), Some(Error::NoHost));
     /// # drop(one);
     /// # Ok::<(), Error>(())
     /// ```
     ///
     /// # Errors
-    /// [`Error::BadNumber`] of 0, [`Error::NoQueue`], [`Error::NoHost`], [`Error::NoMemory`].
+    /// The first of [`Error::BadNumber`] of 0, [`Error::NoQueue`], [`Error::UsedNumber`] and [`Error::UsedQueue`]; or
+    /// [`Error::NoHost`], or [`Error::NoMemory`].
     pub fn host(&mut self, number: u32, queue: u16) -> Result<Host> {
         let mut handle = sys::VANDREXU_HOST_NONE;
         // SAFETY: nobody else has this handle, which isn't Sync; the host's is new.
@@ -199,7 +203,7 @@ impl Host {
     /// Begins to write zeros to so many blocks.
     ///
     /// # Errors
-    /// As [`read`](Host::read).
+    /// As [`read`](Host::read); [`Error::CallSlotArea`] where a slot of the disk is among the blocks.
     pub fn write_zeroes(&mut self, lba: u64, blocks: u32) -> Result<()> {
         // SAFETY: as in read.
         told(unsafe { sys::vandrexu_host_write_zeroes(self.handle.get(), lba, blocks) })
@@ -208,7 +212,7 @@ impl Host {
     /// Begins to write this data, 512 bytes a block.
     ///
     /// # Errors
-    /// As [`read`](Host::read); [`Error::CallLength`] also of data that isn't whole blocks.
+    /// As [`write_zeroes`](Host::write_zeroes); [`Error::CallLength`] also of data that isn't whole blocks.
     pub fn write(&mut self, lba: u64, data: &[u8]) -> Result<()> {
         // SAFETY: as in read; a slice has an address that isn't null.
         told(unsafe { sys::vandrexu_host_write(self.handle.get(), lba, data.as_ptr(), data.len()) })
@@ -217,7 +221,7 @@ impl Host {
     /// Begins to compare this data, 512 bytes a block, with what is there.
     ///
     /// # Errors
-    /// As [`write`](Host::write).
+    /// As [`write`](Host::write), but for [`Error::CallSlotArea`].
     pub fn compare(&mut self, lba: u64, data: &[u8]) -> Result<()> {
         // SAFETY: as in write.
         told(unsafe { sys::vandrexu_host_compare(self.handle.get(), lba, data.as_ptr(), data.len()) })

@@ -1,37 +1,58 @@
 //! Hosts that claim the slots of a disk, release them, and take over those of a host that died.
-use crate::Disk;
 use crate::error::{Error, Result, told};
+use crate::{Config, Disk};
 use std::cell::UnsafeCell;
 use std::fmt;
 use vandrexu_sys as sys;
 
 impl Disk {
-    /// A slot host of this number, with a driver on this submission queue, and `count` slots from block `first` on: slot i
-    /// is block `first` + i.
+    /// A disk as of [`new`](Disk::new), but with `count` slots from block `first` on: slot i is block `first` + i.
     ///
-    /// All slot hosts of a disk should have the same slots. No two hosts of it, of either kind, should have the same
-    /// number or queue. No other call should write to the blocks of slots.
+    /// Only slot hosts write to the blocks of slots, by their claims, releases and takeovers.
     ///
     /// ```
     /// use vandrexu::{Config, Disk, Error};
     ///
-    /// let mut disk = Disk::new(&Config::default(), 1)?;
-    /// assert_eq!(disk.slot_host(1, 1, 2, 0).err(), Some(Error::BadArea));
-    /// assert_eq!(disk.slot_host(0, 1, 2, 4).err(), Some(Error::BadNumber));
-    /// assert_eq!(disk.slot_host(1, 2, 2, 4).err(), Some(Error::NoQueue));
-    /// let one = disk.slot_host(1, 1, 2, 4)?;
-    /// assert_eq!(disk.slot_host(2, 1, 2, 4).err(), Some(Error::NoHost));
+    /// assert_eq!(Disk::with_slots(&Config::default(), 1, 2, 0).err(), Some(Error::BadArea));
+    /// // (four slots: the blocks 2 to 5)
+    /// let mut disk = Disk::with_slots(&Config::default(), 1, 2, 4)?;
+    /// let mut host = disk.host(1, 1)?;
+    /// assert_eq!(host.write(5, &[0xA1; 1024]), Err(Error::CallSlotArea));
+    /// assert_eq!(host.write(6, &[0xA1; 1024]), Ok(()));
+    /// # Ok::<(), Error>(())
+    /// ```
+    ///
+    /// # Errors
+    /// [`Error::BadArea`] of no slot, or of one behind block 65,535; else those of [`new`](Disk::new).
+    pub fn with_slots(config: &Config, hosts: u16, first: u64, count: u32) -> Result<Disk> {
+        let mut handle = sys::VANDREXU_DISK_NONE;
+        // SAFETY: both are there during the call, and aren't the same.
+        told(unsafe { sys::vandrexu_slot_disk_new(&config.raw(), hosts, first, count, &mut handle) })?;
+        Ok(Disk { handle: UnsafeCell::new(handle) })
+    }
+
+    /// A slot host of this number, with a driver on this submission queue, and the slots of the disk.
+    ///
+    /// ```
+    /// use vandrexu::{Config, Disk, Error};
+    ///
+    /// let config = Config { pairs: 2, cqs: 2, ..Config::default() };
+    /// assert_eq!(Disk::new(&config, 1)?.slot_host(1, 1).err(), Some(Error::BadArea));
+    /// let mut disk = Disk::with_slots(&config, 1, 2, 4)?;
+    /// let one = disk.slot_host(1, 1)?;
+    /// assert_eq!(disk.slot_host(1, 2).err(), Some(Error::UsedNumber));
+    /// assert_eq!(disk.slot_host(2, 1).err(), Some(Error::UsedQueue));
     /// # drop(one);
     /// # Ok::<(), Error>(())
     /// ```
     ///
     /// # Errors
-    /// [`Error::BadArea`] of no slot, or of one behind block 65,535; [`Error::BadNumber`] of 0, [`Error::NoQueue`],
-    /// [`Error::NoHost`], [`Error::NoMemory`].
-    pub fn slot_host(&mut self, number: u32, queue: u16, first: u64, count: u32) -> Result<SlotHost> {
+    /// [`Error::BadArea`] where the disk has no slots; else those of [`host`](Disk::host). What a host of either kind
+    /// has used, no host of the other kind gets.
+    pub fn slot_host(&mut self, number: u32, queue: u16) -> Result<SlotHost> {
         let mut handle = sys::VANDREXU_SLOT_HOST_NONE;
         // SAFETY: nobody else has the disk's handle, which isn't Sync; the host's is new.
-        told(unsafe { sys::vandrexu_slot_host_new(self.handle.get(), number, queue, first, count, &mut handle) })?;
+        told(unsafe { sys::vandrexu_slot_host_new(self.handle.get(), number, queue, &mut handle) })?;
         Ok(SlotHost { handle: UnsafeCell::new(handle) })
     }
 }
@@ -63,7 +84,7 @@ pub enum SlotReply {
     Free,
     /// Of the question who holds a slot: whoever has this name.
     Of(Name),
-    /// Of the question who holds a slot: its block is neither zeros nor a name.
+    /// Of the question who holds a slot: its block is neither zeros nor a name, which no call brings about.
     Foreign,
     /// It failed, with this Status Code Type and Status Code.
     Failed {
@@ -94,8 +115,8 @@ pub enum SlotReply {
 ///     }
 /// }
 ///
-/// let mut disk = Disk::new(&Config { pairs: 2, cqs: 2, ..Config::default() }, 2)?;
-/// let (mut one, mut two) = (disk.slot_host(1, 1, 2, 4)?, disk.slot_host(2, 2, 2, 4)?);
+/// let mut disk = Disk::with_slots(&Config { pairs: 2, cqs: 2, ..Config::default() }, 2, 2, 4)?;
+/// let (mut one, mut two) = (disk.slot_host(1, 1)?, disk.slot_host(2, 2)?);
 /// one.claim(0)?;
 /// assert_eq!(two.release(0), Err(Error::NotHeld));
 /// assert_eq!(over(&mut disk, 1, &mut one)?, SlotReply::Held(0));
@@ -161,8 +182,8 @@ impl SlotHost {
     /// ```
     /// use vandrexu::{Config, Disk, Error, Name, SlotReply};
     ///
-    /// let mut disk = Disk::new(&Config { pairs: 2, cqs: 2, ..Config::default() }, 2)?;
-    /// let (mut one, mut two) = (disk.slot_host(1, 1, 2, 4)?, disk.slot_host(2, 2, 2, 4)?);
+    /// let mut disk = Disk::with_slots(&Config { pairs: 2, cqs: 2, ..Config::default() }, 2, 2, 4)?;
+    /// let (mut one, mut two) = (disk.slot_host(1, 1)?, disk.slot_host(2, 2)?);
     /// one.claim(0)?;
     /// disk.serve(1)?;
     /// drop(one);

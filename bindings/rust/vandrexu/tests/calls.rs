@@ -153,8 +153,8 @@ fn what_is_dropped_gives_its_memory_back() {
     for _ in 0..10_000 {
         let disk = Controller::new(&SMALL).expect("memory");
         drop((disk, Checker::new(&SMALL).expect("memory")));
-        let mut disk = Disk::new(&SMALL, 2).expect("memory");
-        drop((disk.host(1, 1).expect("memory"), disk.slot_host(2, 1, 0, 8).expect("memory"), disk));
+        let mut disk = Disk::with_slots(&Config { pairs: 2, cqs: 2, ..SMALL }, 2, 0, 8).expect("memory");
+        drop((disk.host(1, 1).expect("memory"), disk.slot_host(2, 2).expect("memory"), disk));
     }
     // (each has a page at least)
     assert!(pages() < before + 5_000);

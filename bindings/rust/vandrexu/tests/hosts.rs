@@ -22,6 +22,7 @@ fn what_is_refused() -> Result<(), Error> {
     let mut disk = Disk::new(&TWO, 1)?;
     assert_eq!((disk.host(0, 1).err(), disk.host(1, 3).err()), (Some(Error::BadNumber), Some(Error::NoQueue)));
     let mut host = disk.host(1, 1)?;
+    assert_eq!((disk.host(1, 2).err(), disk.host(2, 1).err()), (Some(Error::UsedNumber), Some(Error::UsedQueue)));
     assert_eq!(disk.host(2, 2).err(), Some(Error::NoHost));
     assert_eq!(
         (disk.serve(1), disk.serve(3), disk.fetch(1)),
@@ -51,6 +52,39 @@ fn what_is_refused() -> Result<(), Error> {
     // a queue of two entries takes one at a time
     let mut disk = Disk::new(&Config { sq_size: 2, ..TWO }, 1)?;
     assert_eq!(disk.host(1, 1)?.compare_and_write(0, &[0; 512], &[0; 512]), Err(Error::CallNoRoom));
+    Ok(())
+}
+
+#[test]
+fn a_number_and_a_completion_queue_are_one_hosts() -> Result<(), Error> {
+    // (the submission queues 1 and 3 have completion queue 1, and 2 and 4 have 2)
+    let mut disk = Disk::new(&Config { pairs: 4, ..TWO }, 2)?;
+    // of two causes the first is told
+    for (number, queue, cause) in
+        [(0, 0, Error::BadNumber), (0, 1, Error::BadNumber), (1, 0, Error::NoQueue), (1, 5, Error::NoQueue)]
+    {
+        assert_eq!(disk.host(number, queue).err(), Some(cause));
+    }
+    let mut one = disk.host(u32::MAX, 3)?;
+    one.write(3, &[0xA1; 512])?;
+    assert_eq!(over(&mut disk, 3, &mut one), Reply::Written);
+    assert_eq!(disk.host(u32::MAX, 5).err(), Some(Error::NoQueue));
+    let used = |disk: &mut Disk| {
+        for queue in 1..=4 {
+            assert_eq!(disk.host(u32::MAX, queue).err(), Some(Error::UsedNumber));
+        }
+        for queue in [1, 3] {
+            assert_eq!(disk.host(1, queue).err(), Some(Error::UsedQueue));
+        }
+    };
+    used(&mut disk);
+    drop(one);
+    used(&mut disk);
+    // what was refused has used no pass, and no number
+    let mut two = disk.host(1, 4)?;
+    two.compare(3, &[0xA1; 512])?;
+    assert_eq!(over(&mut disk, 4, &mut two), Reply::Equal);
+    assert_eq!((disk.host(2, 2).err(), disk.host(1, 1).err()), (Some(Error::UsedQueue), Some(Error::UsedNumber)));
     Ok(())
 }
 

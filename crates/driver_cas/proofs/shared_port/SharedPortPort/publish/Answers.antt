@@ -1,4 +1,4 @@
-use Rattle.std.proofs.Common.{ap, ap₂, refl, subst, ◌∙◌, ◌∷◌, ◌++◌, ◌≡◌, ◌⊎◌, List, None, Some, ℕ, sym}
+use Rattle.std.proofs.Common.{ap, ap₂, refl, rules, subst, ◌∙◌, ◌∷◌, ◌++◌, ◌≡◌, ◌⊎◌, List, None, Some, ℕ, sym}
 use Rattle.std.specs.Prelude.{unwrap_or}
 use Rattle.nvme_model.specs.declared.refusal.Why.{Why}
 use Rattle.nvme_model.specs.Passes.{entries}
@@ -6,11 +6,12 @@ use Rattle.nvme_model.specs.Refusals.{refusal}
 use Rattle.nvme_model.specs.declared.config.ConfigNumbers.{ConfigNumbers}
 use Rattle.nvme_model.specs.declared.entry.Entry.{Entry}
 use Rattle.nvme_model.specs.declared.step.Step.{Step}
-use Rattle.meet_lock.specs.Passes.{config_of, number, passes_of, seen}
+use Rattle.meet_lock.specs.Passes.{config_of, mine, number, passes_of, seen}
 use Rattle.driver_calls.specs.declared.event.PortEvent.{PortEvent}
 use Rattle.driver_cas.specs.Passes.{log_at}
 use Rattle.driver_cas.specs.Ports.{view_of}
 use Rattle.driver_cas.proofs.Following.{port_idle, port_stepped}
+use Rattle.driver_cas.proofs.Listening.{saw_more, saw_nothing}
 use Rattle.driver_cas.proofs.Ports.{fault_tells, owned_publish, before_accepted, log_accepted, log_declined}
 use Rattle.driver_cas.proofs.Ports.{publish_event, same_batch, refused_publish, same_why}
 use Rattle.driver_cas.proofs.shared_port.SharedPortPort.publish.Goals as goal
@@ -72,9 +73,8 @@ returns-in-Err-Refused-clause-refused c =
 pub returns-in-Ok-clause-later : goal.returns-in-Ok-clause-later
 returns-in-Ok-clause-later c =
     let k = c.in-Ok.ensures in
-    port_stepped c.args.self.now _ (PortEvent.Sent c.args.queue c.args.batch) refl (λ h. h) k.same k.knows.1
-    k.accepted.adds
-    (returns-in-Ok-clause-sent c)
+    port_stepped c.args.self.now _ refl (λ h. h) k.same (k.knows.1, k.knows.2)
+    (PortEvent.Sent c.args.queue c.args.batch) k.accepted.adds (returns-in-Ok-clause-sent c)
 
 pub returns-in-Err-Refused-clause-later : goal.returns-in-Err-Refused-clause-later
 returns-in-Err-Refused-clause-later c =
@@ -82,4 +82,12 @@ returns-in-Err-Refused-clause-later c =
     let d = e.ensures in
     let r = refused_publish c.args.self.now.pass c.publish.new.pass c.args.queue c.args.batch e.field-0 e.why
     e.batch e.field-0-is d.declined in
-    port_idle c.args.self.now _ refl (λ h. h) d.same d.knows.1 r.0 (returns-in-Err-Refused-clause-back c).1
+    port_idle c.args.self.now _ refl (λ h. h) d.same (d.knows.1, d.knows.2) r.0 (returns-in-Err-Refused-clause-back c).1
+
+pub returns-in-Err-Busy-clause-later : goal.returns-in-Err-Busy-clause-later
+returns-in-Err-Busy-clause-later c =
+    let d = c.in-Err-Busy.ensures in
+    let saw : seen c.publish.new.pass ≡ seen c.args.self.now.pass = search rules in
+    let stays : mine c.publish.new.pass ≡ mine c.args.self.now.pass = search rules in
+    (saw_more c.args.self.now _ refl (λ h. h)
+    (saw_nothing c.args.self.now.pass c.publish.new.pass d.same stays saw)).follows
