@@ -1,6 +1,8 @@
 -- What contracts say of the callers of this program.
-use Rattle.std.specs.Prelude.{IfSome, Option, length, ℕ, ◌+◌, ◌-◌, ◌≡◌, ◌≤◌}
-use Rattle.std.specs.declared.snapshot.Snapshot.{Snapshot}
+use Rattle.std.specs.Prelude.{IfSome, Option, Some, length, true, ℕ, ◌+◌, ◌-◌, ◌≡◌, ◌≤◌}
+use Rattle.nvme_model.specs.History.{Past}
+use Rattle.nvme_model.specs.Legal.{IsLegal}
+use Rattle.nvme_model.specs.Slots.{Name, believed, holder}
 use Rattle.nvme_model.specs.declared.array.Range.{Range}
 use Rattle.nvme_model.specs.declared.config.ConfigNumbers.{ConfigNumbers}
 use Rattle.history.specs.Config.{config_numbers}
@@ -13,13 +15,13 @@ use Rattle.shared_system.specs.Callers.{IsPlaceAt, IsWorkerOf}
 use Rattle.shared_system.specs.declared.system.System.{System}
 use Rattle.shared_system.specs.declared.system.WorkerPasses.{WorkerPasses}
 use Rattle.slot_alloc.specs.Claims.{IsHeldBy}
-use Rattle.slot_alloc.specs.declared.claim.Claim.{Claim}
 use Rattle.many_host_laws.specs.Hosts.{IsHost}
 use Rattle.holding_example.specs.declared.asking.Asker.{Asker}
+use Rattle.holding_example.specs.declared.leaving.Left.{Left}
 
--- the one slot, at block 0
-abbrev pub one_slot : Range
-one_slot = record { slba = 0; blocks = 1 }
+-- two slots, at the blocks 0 and 1
+abbrev pub two_slots : Range
+two_slots = record { slba = 0; blocks = 2 }
 
 -- two queue pairs
 abbrev pub two_pairs : ConfigNumbers
@@ -30,7 +32,7 @@ pub record IsAsker (system : System (Unit {0})) (k : ℕ) (h : Asker) : Type 0 w
   pub of : engine.IsPassOfEngine system.engine (pass_of (port_of h.driver))
   pub there : (1 ≤ k) × (k ≤ length system.notices.items)
   pub place : IsPlaceAt system (k - 1) h.notices
-  pub host : IsHost two_pairs one_slot (k + 2) k k h.driver
+  pub host : IsHost two_pairs two_slots (k + 2) k k h.driver
 
 -- A pass of the system with this number, of four, which serves.
 pub record IsServerPass (system : System (Unit {0})) (k : ℕ) (p : engine.EnginePass) : Type 0 where
@@ -44,6 +46,19 @@ pub record IsOnlyWorker (system : System (Unit {0})) (w : WorkerPasses) : Type 0
   pub worker : IsWorkerOf system w
   pub pass : IsServerPass system 1 w.caller.pass
 
--- the claim, if it is one, is held by the host's driver
-abbrev pub HoldsClaim : Asker → Option (Snapshot Claim) → Type 0
-HoldsClaim h held = IfSome held (λ c. IsHeldBy h.driver c.value)
+-- what the host left held, if anything, is held by its driver
+abbrev pub HoldsClaim : Asker → Option Left → Type 0
+HoldsClaim h held = IfSome held (λ l. IsHeldBy h.driver l.claim.value)
+
+-- At this moment of the history the host of this number holds the slot, under this serial; and nobody else is believed
+-- of it.
+pub record HoldsSlot (past : Past) (host slot serial : ℕ) : Type 0 where
+  pub holds : holder past slot ≡ Some (record { host = host; serial = serial })
+  pub alone : (n : Name) → believed two_pairs past slot n ≡ true → n ≡ record { host = host; serial = serial }
+
+-- At one moment of a legal history host 1 holds what it says, and host 2 too.
+pub record IsMoment (held : Option Left × Option Left) : Type 0 where
+  pub past : Past
+  pub legal : IsLegal two_pairs past
+  pub one : IfSome held.0 (λ l. HoldsSlot past 1 l.slot l.serial)
+  pub two : IfSome held.1 (λ l. HoldsSlot past 2 l.slot l.serial)

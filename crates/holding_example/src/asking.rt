@@ -1,14 +1,15 @@
-//! Hosts that ask for the one slot, and a server.
+//! Hosts that ask for slots, and a server.
 
-ghost use Rattle.std.specs.Prelude.{IfSome, vec_len, ◌≡◌, ◌+◌};
+ghost use Rattle.std.specs.Prelude.{IfSome, vec_len, ◌+◌, ◌<◌, ◌≡◌};
 ghost use Rattle.driver_cas.specs.Listening.{SawMore};
-ghost use Rattle.holding_example.specs.Holding.{HoldsClaim, IsAsker, IsOnlyWorker, IsServerPass, one_slot, two_pairs};
+ghost use Rattle.holding_example.specs.Holding.{HoldsClaim, IsAsker, IsOnlyWorker, IsServerPass, two_pairs, two_slots};
 ghost use Rattle.meet_lock.specs.Passes.{seen};
 ghost use Rattle.shared_system.specs.Callers.{AreCallersOf, AreLastHosts, AreLastWorkers, IsHostOf, IsLastPass};
 ghost use Rattle.slot_alloc.specs.Areas.{area};
 ghost use Rattle.slot_alloc.specs.Claims.{IsClaimingOf, IsUnreleased};
 ghost use Rattle.slot_alloc.specs.Progresses.{IsClaimingOn, IsHeldOn, IsUnreleasedOn};
 
+use crate::leaving::{Left, leaves};
 use driver_cas::{Driver, SharedPort};
 use history::Config;
 use many_host_laws::driver_laws::{a_host_goes_on, a_new_driver_is_a_host};
@@ -16,15 +17,12 @@ use meet_lock::Pass;
 use nvme_model::array::Range;
 use shared_system::{Callers, HostPasses, System, WorkerPasses, a_server_goes_on, serve};
 use slot_alloc::laws::an_untouched_driver_keeps_its_slots;
-use slot_alloc::{Claim, Claiming, Progress, Slots, poll_claim};
+use slot_alloc::{Claiming, Progress, Slots, poll_claim};
 use std::alloc::Global;
 use std::snapshot::Snapshot;
 use std::sync::Wait;
 use step_core::Core;
 use work_queue::{Notice, QueuePass};
-
-/// What a host holds: its claim, which was left held.
-pub(crate) type HeldClaim = Option<Snapshot<Claim>>;
 
 /// The host of a completion queue: its driver, and its pass of the queue of notices.
 #[derive(Drop)]
@@ -72,7 +70,7 @@ fn next_passes(
     hosts.pop()
 }
 
-// Host h, whose slot is block 0; None where memory is refused.
+// Host h, whose slots are the blocks 0 and 1; None where memory is refused.
 #[tactic(auto, using(driver_calls::proofs::OwnQueue::owns_own))]
 fn asker_of<'a>(
     alloc: Global,
@@ -90,8 +88,8 @@ fn asker_of<'a>(
     let queues = [h].to_vec(alloc).ok()?;
     let acwu = config.numbers().atomic.acwu;
     let port = SharedPort::new(&system.engine, pass, h);
-    let slot = Range { slba: 0, blocks: 1 };
-    match Driver::new(alloc, port, u32::from(h), acwu, slot, queues) {
+    let slots = Range { slba: 0, blocks: 2 };
+    match Driver::new(alloc, port, u32::from(h), acwu, slots, queues) {
         Ok(driver) => {
             a_new_driver_is_a_host(&driver);
             Some(Asker { driver, notices })
@@ -147,20 +145,21 @@ pub(crate) fn seats_of<'a>(
     })
 }
 
-// Begins to ask for the slot.
+// Begins to ask for a slot.
 fn begins<'a>(
     _system: &System<()>,
     slots: &Slots,
     host: &mut Asker<'a>,
     _h: u16,
+    slot: u32,
 ) -> Option<Claiming<SharedPort<'a>>>
     requires host { IsAsker _system.now _h host.old }
-    requires slots { area slots.now ≡ one_slot }
+    requires slots { (area slots.now ≡ two_slots) × (slot < 2) }
     ensures host { IsAsker _system.now _h host.new }
     ensures claiming { IfSome result (λ k. IsClaimingOf host.new.driver k × IsUnreleased host.new.driver k) }
 {
     let old = Snapshot::of(&host.driver);
-    let claiming = slots.claim(&mut host.driver, 0);
+    let claiming = slots.claim(&mut host.driver, slot);
     a_host_goes_on(&old, &host.driver);
     claiming.ok()
 }
@@ -221,7 +220,7 @@ fn answered<'a>(
     h: u16,
     claiming: Claiming<SharedPort<'a>>,
     most: u32,
-) -> HeldClaim
+) -> Option<Left>
     requires host { IsAsker system.now h host.old }
     requires claiming { IsClaimingOf host.old.driver claiming × IsUnreleased host.old.driver claiming }
     ensures host { IsAsker system.now h host.new }
@@ -231,11 +230,7 @@ fn answered<'a>(
     for _ in 0..most {
         match polls(system, host, h, claiming) {
             Progress::Pending(next) => claiming = next,
-            Progress::Held(claim) => {
-                let held = Snapshot::of(&claim);
-                let _ = claim.leave();
-                return Some(held);
-            }
+            Progress::Held(claim) => return Some(leaves(claim)),
             Progress::Later(_, _) | Progress::Taken | Progress::AllTaken | Progress::Failed(_) =>
                 return None,
         }
@@ -243,7 +238,7 @@ fn answered<'a>(
     None
 }
 
-/// Host h asks for the slot, is served, and leaves it held where it was free. A pair has two completions: the host
+/// Host h asks for a slot, is served, and leaves it held where it was free. A pair has two completions: the host
 /// listens twice, and polls at most twice.
 pub(crate) fn asks<R: Wait>(
     rt: &R,
@@ -252,15 +247,16 @@ pub(crate) fn asks<R: Wait>(
     slots: &Slots,
     host: &mut Asker<'_>,
     h: u16,
-) -> HeldClaim
+    slot: u32,
+) -> Option<Left>
     requires host { IsAsker system.now h host.old }
     requires server { IsOnlyWorker system.now server.old }
-    requires slots { area slots.now ≡ one_slot }
+    requires slots { (area slots.now ≡ two_slots) × (slot < 2) }
     ensures host { IsAsker system.now h host.new }
     ensures server { IsOnlyWorker system.now server.new }
     ensures held { HoldsClaim host.new result }
 {
-    let claiming = begins(system, slots, host, h)?;
+    let claiming = begins(system, slots, host, h, slot)?;
     serves(rt, system, server, h);
     listens(rt, system, host, h, &claiming);
     listens(rt, system, host, h, &claiming);
@@ -272,7 +268,7 @@ pub(crate) fn meets(
     _system: &System<()>,
     one: &mut Asker<'_>,
     two: &mut Asker<'_>,
-    _held: &(HeldClaim, HeldClaim),
+    _held: &(Option<Left>, Option<Left>),
 ) -> Option<()>
     requires hosts { IsAsker _system.now 1 one.old × IsAsker _system.now 2 two.old }
     requires held { HoldsClaim one.old _held.now.0 × HoldsClaim two.old _held.now.1 }
@@ -297,7 +293,7 @@ pub(crate) fn meets_server(
     host: &mut Asker<'_>,
     pass: &mut Pass<Core>,
     _k: u16,
-    _held: &HeldClaim,
+    _held: &Option<Left>,
 ) -> Option<()>
     requires host { IsAsker _system.now 1 host.old }
     requires pass { IsServerPass _system.now _k pass.old }

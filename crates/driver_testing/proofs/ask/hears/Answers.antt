@@ -1,8 +1,20 @@
-use Rattle.std.proofs.Common.{subst, sym, ◌∙◌}
+use Rattle.std.proofs.Common.{refl, subst, sym, ◌∙◌}
+use Rattle.driver_cas.proofs.Listening.{follows_same}
 use Rattle.driver_cas.specs.Starts.{IsUntouched}
 use Rattle.driver_cas.specs.declared.driver.Driver.{Driver}
 use Rattle.driver_cas.specs.declared.shared_port.SharedPort.{SharedPort}
 use Rattle.driver_testing.proofs.ask.hears.Goals as goal
+
+pub loop-init : goal.loop-init
+loop-init g c = (
+  c.requires,
+  λ k of. of,
+  record {
+    same = record { began = refl; host = refl; acwu = refl; slots = refl; serial = refl; queues = refl };
+    later = follows_same c.args.host.now.driver.port;
+    as_before = (refl, refl);
+  },
+)
 
 pub loop-preserved : goal.loop-preserved
 loop-preserved g c =
