@@ -19,8 +19,7 @@
         }                                                                                                              \
     } while (0)
 
-/* Two pairs, or three, each with a completion queue of its own; slots are the blocks 2 to 5. */
-static const vandrexu_config config = {8, 1, 1, 0, 0, 2, 4, 4, 8, 2};
+/* Three pairs, or two, each with a completion queue of its own; slots are the blocks 2 to 5. */
 static const vandrexu_config wide = {8, 1, 1, 0, 0, 3, 4, 4, 8, 3};
 
 enum { FIRST = 2, COUNT = 4 };
@@ -28,6 +27,8 @@ enum { FIRST = 2, COUNT = 4 };
 static const uint8_t zeros[512];
 
 #ifndef REFUSES
+static const vandrexu_config config = {8, 1, 1, 0, 0, 2, 4, 4, 8, 2};
+
 static void serve(vandrexu_disk *disk, uint16_t queue)
 {
     WANT(vandrexu_disk_serve(disk, queue) == VANDREXU_DONE);
