@@ -4,9 +4,13 @@
     .ci/crates.py above CRATE ..          prints these crates and those that stand on them, in the order of crates.txt
     .ci/crates.py below CRATE ..          the crates that these stand on, without them; `needed`: with them
     .ci/crates.py room FOLDER CRATE ..    makes a folder a tree of these crates alone, for an `rt ci` of its own
+    .ci/crates.py check CRATE [FUNCTION ..]
+                                          checks a crate, or these functions of it, over the libraries that ./verify left in this
+                                          tree, and keeps what it proved in out/checked
 """
 import os
 import shutil
+import subprocess
 import sys
 
 TOP = os.path.normpath(f"{os.path.dirname(os.path.abspath(__file__))}/..")
@@ -46,6 +50,30 @@ def above(names):
     return [it for it in LINES if it in found]
 
 
+def check_words(crate, room, jobs=1):
+    """Returns the command that checks a crate in its folder, over the libraries that lie in this room."""
+    kit = os.path.dirname(subprocess.run(["rt", "doc"], stdout=subprocess.PIPE, check=True, text=True).stdout.strip())
+    named, root = libraries()[crate], "lib" if os.path.exists(f"{TOP}/crates/{crate}/src/lib.rt") else "main"
+    words = [f"{kit}/bin/rattle", "check", "--crate-name", crate, f"src/{root}.rt", "-L", f"dependency={kit}/rlibs"]
+    for name in ["std", *(it for it in named if it not in LINES)]:
+        words += ["--extern", f"{name}={kit}/rlibs/{name}.rlib"]
+    for name in below([crate]):
+        made = f"{room}/crates/{name}/out/rlib"
+        words += ["-L", f"dependency={made}"] + ["--extern", f"{name}={made}/{name}.rlib"] * (name in named)
+    return [*words, "--antt-project", f"{kit}/rattle/logic/antt-project.json", "--logic-built", f"{kit}/logic_built", "--jobs", str(jobs)]
+
+
+def check(crate, functions):
+    """Checks a crate, or these functions of it, and returns how that ended."""
+    lost = [it for it in below([crate]) if not os.path.exists(f"{TOP}/crates/{it}/out/rlib/{it}.rlib")]
+    if lost:
+        raise SystemExit(f"crates.py: the library of {lost[0]} isn't in this tree: ./verify, or rt ci, makes it")
+    only = [it for name in functions for it in ("--only", name)]
+    os.makedirs(kept := f"{TOP}/out/checked/{crate}", exist_ok=True)
+    words = [*check_words(crate, TOP, os.cpu_count()), *only, "--incremental", kept]
+    return subprocess.run(words, cwd=f"{TOP}/crates/{crate}", check=False).returncode
+
+
 def make_room(folder, names):
     """Makes a folder a tree of these crates alone."""
     os.makedirs(f"{folder}/crates")
@@ -62,6 +90,8 @@ def make_room(folder, names):
 
 def main(words):
     way, *names = words or [""]
+    if way == "check" and names and names[0] in LINES:
+        return check(names[0], names[1:])
     folder = names.pop(0) if way == "room" and names else ""
     ways = {"above": above, "below": below, "needed": lambda it: [*below(it), *it], "room": lambda it: make_room(folder, it)}
     lost = [it for it in names if it not in LINES]
