@@ -21,12 +21,11 @@ extern "C" {
 enum vandrexu_slot_status {
     VANDREXU_CALL_NO_SERIAL = 48, /* the host has used the last serial */
     /* of these calls alone */
-    VANDREXU_NO_SLOT = 118,   /* there is no such slot */
-    VANDREXU_NOT_HELD = 119,  /* the host hasn't the slot */
-    VANDREXU_HELD = 120,      /* the host has the slot */
-    VANDREXU_TOOK_OVER = 121, /* the host has begun a takeover, and claims nothing any more */
-    VANDREXU_BAD_NAME = 122,  /* the name has a zero in it, or is of the host itself */
-    VANDREXU_BAD_AREA = 123   /* there would be no slot, or one behind block 65,535 */
+    VANDREXU_NO_SLOT = 118,  /* there is no such slot */
+    VANDREXU_NOT_HELD = 119, /* the host hasn't the slot */
+    VANDREXU_HELD = 120,     /* the host has the slot */
+    VANDREXU_BAD_NAME = 122, /* the name has a zero in it, or is of the host itself */
+    VANDREXU_BAD_AREA = 123  /* there would be no slot, or one behind block 65,535 */
 };
 
 typedef struct vandrexu_slot_host {
@@ -52,11 +51,11 @@ void vandrexu_slot_host_free(vandrexu_slot_host *host);
 /* Each begins a call about slot i: its entries are published. 43, 45 and 46, and then nothing was, and the host has what it
  * had; VANDREXU_IN_CALL, VANDREXU_NO_SLOT. */
 
-/* To claim it: to swap zeros for the host's next name. 48; VANDREXU_HELD, VANDREXU_TOOK_OVER. */
+/* To claim it: to swap zeros for the host's next name. 48; VANDREXU_HELD. */
 uint32_t vandrexu_slot_claim(vandrexu_slot_host *host, uint32_t slot);
 
 /* To claim the first slot that nobody has: slot 0, and each further one by a poll, once the one before is answered to be
- * somebody's. VANDREXU_SLOT_TAKEN is then told where each was, at a moment of its own. 48; VANDREXU_TOOK_OVER. */
+ * somebody's. VANDREXU_SLOT_TAKEN is then told where each was, at a moment of its own. 48. */
 uint32_t vandrexu_slot_claim_any(vandrexu_slot_host *host);
 
 /* To release it, which was claimed or taken over: to swap the host's name for zeros. From then on the host has it no more,

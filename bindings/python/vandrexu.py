@@ -90,7 +90,6 @@ class Status(IntEnum):
     NO_SLOT = 118
     NOT_HELD = 119
     HELD = 120
-    TOOK_OVER = 121
     BAD_NAME = 122
     BAD_AREA = 123
     USED_NUMBER = 124
@@ -149,7 +148,6 @@ WORDS: dict[Status, str] = {
     Status.NO_SLOT: "no such slot",
     Status.NOT_HELD: "the host hasn't the slot",
     Status.HELD: "the host has the slot",
-    Status.TOOK_OVER: "the host has begun a takeover, and claims nothing any more",
     Status.BAD_NAME: "the name has a zero in it, or is of the host itself",
     Status.BAD_AREA: "there would be no slot, or one behind block 65,535",
     Status.USED_NUMBER: "a host of the disk had the number before",
@@ -1145,8 +1143,8 @@ class SlotHost(_HostHandle):
     >>> over(disk, two).kind.name
     'HELD'
     >>> two.claim(1)
-    Traceback (most recent call last):
-    vandrexu.SlotRefused: the host has begun a takeover, and claims nothing any more
+    >>> over(disk, two).kind.name
+    'HELD'
     """
     _new, _free, _raw_type = "vandrexu_slot_host_new", "vandrexu_slot_host_free", RawSlotHost
 
@@ -1166,8 +1164,8 @@ class SlotHost(_HostHandle):
         self._ask("vandrexu_slot_release", _fits(slot, 32))
 
     def take_over(self, slot: int, dead: Name) -> None:
-        """Begins to take a slot over: to swap the name of a dead host for the host's next name. From its first takeover
-        on a host claims nothing any more. That the dead host does nothing any more is yours to see."""
+        """Begins to take a slot over: to swap the name of a dead host for the host's next name. That the dead host does
+        nothing any more is yours to see."""
         host, serial = dead
         self._ask("vandrexu_slot_take_over", _fits(slot, 32), _fits(host, 32), _fits(serial, 64))
 

@@ -270,12 +270,16 @@ static void claims_any(void)
     reply = over(&disk, 1, &one, VANDREXU_SLOT_OF_NAME);
     WANT(vandrexu_slot_take_over(&one, 3, reply.host, reply.serial) == VANDREXU_DONE);
     over(&disk, 1, &one, VANDREXU_SLOT_HELD);
-    WANT(vandrexu_slot_claim_any(&one) == VANDREXU_TOOK_OVER);
+    /* behind a takeover, too */
+    WANT(vandrexu_slot_release(&one, 2) == VANDREXU_DONE);
+    over(&disk, 1, &one, VANDREXU_SLOT_RELEASED);
+    reply = any(&disk, 1, &one, VANDREXU_SLOT_HELD);
+    WANT(reply.slot == 2);
     vandrexu_slot_host_free(&one);
     vandrexu_disk_free(&disk);
 }
 
-/* A host takes the slots over of one that is gone, and claims nothing any more. */
+/* A host takes the slots over of one that is gone, and claims again. */
 static void takeovers(void)
 {
     vandrexu_disk disk = VANDREXU_DISK_NONE;
@@ -299,7 +303,9 @@ static void takeovers(void)
     WANT(vandrexu_slot_take_over(&two, 0, reply.host, reply.serial) == VANDREXU_DONE);
     reply = over(&disk, 2, &two, VANDREXU_SLOT_HELD);
     WANT(reply.slot == 0);
-    WANT(vandrexu_slot_claim(&two, 1) == VANDREXU_TOOK_OVER);
+    WANT(vandrexu_slot_claim(&two, 1) == VANDREXU_DONE);
+    reply = over(&disk, 2, &two, VANDREXU_SLOT_HELD);
+    WANT(reply.slot == 1);
     WANT(vandrexu_slot_claim(&two, 0) == VANDREXU_HELD);
     /* another name than the one it has */
     WANT(vandrexu_slot_take_over(&two, 2, 1, 1) == VANDREXU_DONE);
@@ -309,15 +315,14 @@ static void takeovers(void)
     WANT(reply.slot == 2);
     WANT(vandrexu_slot_ask_holder(&two, 2) == VANDREXU_DONE);
     reply = over(&disk, 2, &two, VANDREXU_SLOT_OF_NAME);
-    WANT(reply.host == 2 && reply.serial == 4);
-    /* what was taken over is released, and what was claimed before */
-    for (uint32_t slot = 0; slot < COUNT; slot++)
-        if (slot != 1) {
-            WANT(vandrexu_slot_release(&two, slot) == VANDREXU_DONE);
-            over(&disk, 2, &two, VANDREXU_SLOT_RELEASED);
-            WANT(vandrexu_slot_ask_holder(&two, slot) == VANDREXU_DONE);
-            over(&disk, 2, &two, VANDREXU_SLOT_FREE);
-        }
+    WANT(reply.host == 2 && reply.serial == 5);
+    /* what was taken over is released, and what was claimed before and behind */
+    for (uint32_t slot = 0; slot < COUNT; slot++) {
+        WANT(vandrexu_slot_release(&two, slot) == VANDREXU_DONE);
+        over(&disk, 2, &two, VANDREXU_SLOT_RELEASED);
+        WANT(vandrexu_slot_ask_holder(&two, slot) == VANDREXU_DONE);
+        over(&disk, 2, &two, VANDREXU_SLOT_FREE);
+    }
     vandrexu_slot_host_free(&two);
     vandrexu_disk_free(&disk);
 }

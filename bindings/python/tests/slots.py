@@ -230,7 +230,10 @@ class Slots(unittest.TestCase):
         one.ask_holder(3)
         one.take_over(3, self.over(disk, one).name)
         self.assertEqual(self.over(disk, one), held(3))
-        self.refused(Status.TOOK_OVER, one.claim_any)
+        # behind a takeover, too
+        one.release(2)
+        self.assertEqual(self.over(disk, one), RELEASED)
+        self.assertEqual(self.any(disk, one), held(2))
 
     def test_one_call_at_a_time(self):
         disk, one, _two = two_hosts()
@@ -316,7 +319,6 @@ class Slots(unittest.TestCase):
         self.refused(Status.HELD, two.claim, 0)
         two.release(1)
         self.assertEqual(self.over(disk, two), RELEASED)
-        self.refused(Status.TOOK_OVER, two.claim, 1)
         # another name than the slot has, and one of a slot that is free
         for slot in (2, 1):
             two.take_over(slot, first)
@@ -325,8 +327,13 @@ class Slots(unittest.TestCase):
         self.assertEqual(self.over(disk, two), held(2))
         two.ask_holder(2)
         self.assertEqual(self.over(disk, two), of(2, 6))
-        # what was taken over is released, and what was claimed before
-        for slot in (0, 2, 3):
+        # a host that took slots over claims again
+        two.claim(1)
+        self.assertEqual(self.over(disk, two), held(1))
+        two.ask_holder(1)
+        self.assertEqual(self.over(disk, two), of(2, 7))
+        # what was taken over is released, and what was claimed before and behind
+        for slot in (0, 1, 2, 3):
             two.release(slot)
             self.assertEqual(self.over(disk, two), RELEASED)
             self.refused(Status.NOT_HELD, two.release, slot)

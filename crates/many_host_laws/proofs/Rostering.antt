@@ -1,12 +1,14 @@
 -- Where all passes are those of drivers and servers, the history keeps the slots.
 use Rattle.std.proofs.Common.{Bool, List, [], ap, arith, cond, eqb, false, inl, inr, leb, length, ltb, not, refl}
 use Rattle.std.proofs.Common.{subst, suc, sym, true, ℕ, ◌&&◌, ◌+◌, ◌-◌, ◌++◌, ◌<◌, ◌||◌, ◌∙◌, ◌∷◌, ◌≡◌, ◌≤◌}
-use Rattle.std.specs.List.{list_all}
+use Rattle.std.specs.List.{Contains, list_all}
 use Rattle.std.proofs.lemmas.Bool.{and_from, and_parts, cases_Bool, leb-true, le-leb, lt-ltb, ltb-false, ltb-true}
 use Rattle.nvme_model.specs.History.{Past}
 use Rattle.nvme_model.specs.Legal.{IsLegal}
 use Rattle.nvme_model.specs.Passes.{IsBeginning, SharedPast, entries, places}
-use Rattle.nvme_model.specs.Slots.{disciplined}
+use Rattle.nvme_model.specs.Array.{has_block}
+use Rattle.nvme_model.specs.Config.{completion_queue}
+use Rattle.nvme_model.specs.Slots.{Swap, disciplined, swaps}
 use Rattle.nvme_model.specs.declared.array.Range.{Range}
 use Rattle.nvme_model.specs.declared.config.ConfigNumbers.{ConfigNumbers}
 use Rattle.nvme_model.specs.declared.entry.Entry.{Entry}
@@ -25,7 +27,11 @@ use Rattle.meet_lock.specs.Passes.{IsSeenWhole, mine, number, seen}
 use Rattle.meet_lock.proofs.Wholes.{some_at}
 use Rattle.meet_lock.proofs.Beginnings.{both}
 use Rattle.shared_system.specs.Servers.{is_serving, serves}
+use Rattle.host_laws.proofs.Elements.{In, contains_in}
+use Rattle.slot_log_laws.proofs.Claiming.{claimed_host}
 use Rattle.slot_log_laws.proofs.Counting.{own_claims}
+use Rattle.slot_log_laws.proofs.Knowing.{log_knows}
+use Rattle.slot_log_laws.proofs.SlotRules.{slot_rules_parts}
 use Rattle.slot_log_laws.specs.Counts.{claims_on, log_claims}
 use Rattle.slot_log_laws.specs.SlotRules.{keeps_slot_rules}
 use Rattle.many_host_laws.specs.Rosters.{IsRosterOf, Roster, all_in_place, keeps_to}
@@ -207,6 +213,23 @@ module _ (c : ConfigNumbers) (slots : Range) (servers : ℕ) (ps : List EnginePa
       subst (λ (z : Past × ℕ). claims_only_on c slots z.0 z.1 z.1 ≡ true) (λ i. (sym whole.whole i, is i))
       (slot_view c slots roster shared p rostered d).premises.own_number
 
+  own_host : (h : ℕ) (s : Swap) → 1 ≤ h → h ≤ c.cqs → Contains (swaps past) s → has_block slots s.lba ≡ true
+      → s.claims ≡ true → completion_queue c s.queue ≡ h → s.name.host ≡ h
+  unfolding roster
+  own_host h s low high there inside claims on =
+      let p = servers + h in
+      let d : drives p ≡ true =
+      and_from (ltb servers p) (leb p (servers + c.cqs)) (lt-ltb servers p (omega (arith, low)))
+      (le-leb p (servers + c.cqs) (omega (arith, high))) in
+      let is : p - servers ≡ h = omega arith in
+      let v = slot_view c slots roster shared p rostered d in
+      let log = events c (p - servers) p shared in
+      let k = log_knows c (p - servers) p shared v.legal v.premises.alone.sole (did p d).tidy in
+      let each = (slot_rules_parts slots (p - servers) (did p d).last log (did p d).slot_rules).each in
+      let here : In s (swaps (entries shared)) =
+      contains_in (swaps (entries shared)) s (subst (λ (x : Past). Contains (swaps x) s) whole.whole there) in
+      claimed_host slots (p - servers) log s each (k.known s here (on ∙ sym is)) claims inside ∙ is
+
   pub race_keeps : KeepsSlots c slots past
   race_keeps =
       record {
@@ -218,6 +241,7 @@ module _ (c : ConfigNumbers) (slots : Range) (servers : ℕ) (ps : List EnginePa
             one_believed c slots before l n m (legal_before later before is) (kept_before later before is)
             (area_has slots l area) a b;
         numbers = claims;
+        own = own_host;
       }
     where
       legal_before : (later before : Past) → later ++ before ≡ past → IsLegal c before

@@ -1,8 +1,10 @@
 -- All passes of an engine: some that only served, and one of each host.
 use Rattle.std.specs.Prelude.{List, Some, slice_get, true, ℕ, ◌+◌, ◌-◌, ◌++◌, ◌<◌, ◌≡◌, ◌≤◌}
+use Rattle.std.specs.List.{Contains}
 use Rattle.nvme_model.specs.Array.{has_block}
+use Rattle.nvme_model.specs.Config.{completion_queue}
 use Rattle.nvme_model.specs.History.{Past}
-use Rattle.nvme_model.specs.Slots.{Name, believed, disciplined, holder}
+use Rattle.nvme_model.specs.Slots.{Name, Swap, believed, disciplined, holder, swaps}
 use Rattle.nvme_model.specs.declared.array.Range.{Range}
 use Rattle.nvme_model.specs.declared.config.ConfigNumbers.{ConfigNumbers}
 use Rattle.host_laws.specs.Claims.{claims_only_on}
@@ -36,7 +38,8 @@ AreClosing c slots servers ps = (k : ℕ) (p : EnginePass) → slice_get ps k �
     → (number p ≡ k + 1) × IsClosing c slots servers p
 
 -- A history keeps the discipline of its slots. At each beginning of it whoever is believed of a slot is its holder by
--- its block, and no slot has two believed names. Host h claims on submission queues of completion queue h alone.
+-- its block, and no slot has two believed names. Host h claims on submission queues of completion queue h alone, and
+-- nobody else claims there.
 pub record KeepsSlots (c : ConfigNumbers) (slots : Range) (past : Past) : Type 0 where
   pub disciplined : disciplined c slots past ≡ true
   pub holds : (later before : Past) (l : ℕ) (n : Name) → later ++ before ≡ past → has_block slots l ≡ true
@@ -44,6 +47,8 @@ pub record KeepsSlots (c : ConfigNumbers) (slots : Range) (past : Past) : Type 0
   pub one : (later before : Past) (l : ℕ) (n m : Name) → later ++ before ≡ past → has_block slots l ≡ true
       → believed c before l n ≡ true → believed c before l m ≡ true → n ≡ m
   pub numbers : (h : ℕ) → 1 ≤ h → h ≤ c.cqs → claims_only_on c slots past h h ≡ true
+  pub own : (h : ℕ) (s : Swap) → 1 ≤ h → h ≤ c.cqs → Contains (swaps past) s → has_block slots s.lba ≡ true
+      → s.claims ≡ true → completion_queue c s.queue ≡ h → s.name.host ≡ h
 
 -- On the submission queues of this completion queue the pass published so many claims of the area's first slot.
 abbrev pub HasClaimed : ConfigNumbers → Range → ℕ → ℕ → EnginePass → Type 0

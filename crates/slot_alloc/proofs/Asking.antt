@@ -20,7 +20,7 @@ use Rattle.driver_cas.specs.declared.fault.Fault.{Fault}
 use Rattle.driver_cas.specs.declared.port.Port.{Ghosts}
 use Rattle.slot_log_laws.specs.Swaps.{log_released}
 use Rattle.slot_alloc.specs.Areas.{area, block_of}
-use Rattle.slot_alloc.specs.SlotRules.{DriverContinues, KeepsSlotRules, ReleasedName, own_name}
+use Rattle.slot_alloc.specs.SlotRules.{DriverContinues, KeepsSlotRules, ReleasedName, ReleasesDrawn, own_name}
 use Rattle.slot_alloc.specs.Claims.{AreTaken, ClaimSays, IsAsking, IsClaimingOf, IsStageUnreleased, claims_in}
 use Rattle.slot_alloc.specs.Progresses.{told_of}
 use Rattle.slot_alloc.specs.declared.claiming.Claiming.{Claiming}
@@ -138,11 +138,11 @@ module _ {P : Type 0} (g : Ghosts P) where
 
   -- no release of its name was published
   pub unreleased_now : (d e : Driver P g) (slot : ℕ) (k : Call P) (serial : ℕ)
-      → Claims g d e (block_of (area_of d) slot) k serial → KeepsSlotRules d
+      → Claims g d e (block_of (area_of d) slot) k serial → ReleasesDrawn d
       → IsStageUnreleased e (block_of (area_of e) slot) (ClaimStage.Asked k serial)
-  unreleased_now d e slot k serial c slot_rules =
+  unreleased_now d e slot k serial c drawn =
       subst (λ (r : Range). log_released (made e) (block_of r slot) (own_name e serial) ≡ false) (sym c.settings.slots)
-      (unreleased_claimed g d e (block_of (area_of d) slot) k serial c slot_rules)
+      (unreleased_claimed g d e (block_of (area_of d) slot) k serial c drawn)
 
   -- it is due
   pub claiming_due : ((a b c : P) → g.follows a b → g.follows b c → g.follows a c)

@@ -148,6 +148,7 @@ module _ {P : Type 0} (g : Ghosts P) where
           subst (λ (r : Range). IsAsking e (block_of r k.slot) call serial) (sym x.same.slots) (record {
             of = call_of;
             does = a.0.does;
+            drawn = omega (arith, a.0.drawn, x.same.serial);
             claim = claim_polled d e (block_of (area_of d) k.slot) call serial x a.0;
           }),
           a.1,
@@ -246,6 +247,7 @@ module _ {P : Type 0} (g : Ghosts P) where
       record {
         inside = subst (λ (r : Range). k.slot < r.blocks) (sym x.same.slots) (within d k of);
         name = there.name;
+        drawn = omega (arith, (asked d k call serial of is).0.drawn, x.same.serial);
         believed = won_by_log (made e) call.queue call.first call.second (number_of e call)
             (block_of (area_of e) k.slot) (own_name e serial) there
             (subst (λ (o : Op). call_outcome (made e) call.queue o call.first call.second ≡ Some (Ok Reply.Swapped))
@@ -260,6 +262,7 @@ module _ {P : Type 0} (g : Ghosts P) where
       record {
         inside = won.inside;
         name = won.name;
+        drawn = won.drawn;
         believed = won.believed (unreleased_polled d e k.slot call serial x (within d k of)
             (subst (λ (s : ClaimStage P). IsStageUnreleased d (block_of (area_of d) k.slot) s) is h));
       }

@@ -18,13 +18,13 @@ use Rattle.driver_cas.specs.declared.call.Call.{Call}
 use Rattle.driver_cas.specs.declared.driver.Driver.{Driver}
 use Rattle.driver_cas.specs.declared.port.Port.{Ghosts}
 use Rattle.slot_log_laws.proofs.SlotRules.{slot_rules_claim}
-use Rattle.slot_log_laws.proofs.Claiming.{unreleased}
 use Rattle.slot_log_laws.proofs.Staying.{released_claim}
 use Rattle.slot_log_laws.proofs.Winning.{claim_in}
 use Rattle.slot_log_laws.specs.Calls.{IsClaimIn, IsName}
 use Rattle.slot_log_laws.specs.SlotRules.{keeps_slot_rules}
 use Rattle.slot_log_laws.specs.Swaps.{log_released}
-use Rattle.slot_alloc.specs.SlotRules.{DriverContinues, KeepsSlotRules, LogContinues, ReleasedName, own_name}
+use Rattle.slot_alloc.specs.SlotRules.{DriverContinues, KeepsSlotRules, LogContinues, ReleasedName, ReleasesDrawn}
+use Rattle.slot_alloc.specs.SlotRules.{own_name}
 use Rattle.slot_alloc.specs.Claims.{IsAsking}
 use Rattle.slot_alloc.proofs.Logs.{claim_on, same_on}
 
@@ -143,6 +143,7 @@ module _ {P : Type 0} (g : Ghosts P) where
       record {
         of = s.of;
         does = s.does;
+        drawn = omega (arith, c.start.1);
         claim = subst (λ (z : List PortEvent × ℕ × ℕ).
             IsClaimIn z.0 k.queue k.first k.second z.1 l (record { host = z.2; serial = serial }))
             (λ i. (sym s.published i, sym number i, sym c.settings.host i))
@@ -151,15 +152,15 @@ module _ {P : Type 0} (g : Ghosts P) where
             s.free.unlike s.is));
       }
 
-  -- a driver that keeps the rules has released no name under its next serial
+  -- no name under its next serial was released
   pub unreleased_claimed : (d e : Driver P g) (l : ℕ) (k : Call P) (serial : ℕ) → Claims d e l k serial
-      → KeepsSlotRules d
+      → ReleasesDrawn d
       → log_released (made e) l (own_name e serial) ≡ false
-  unreleased_claimed d e l k serial c slot_rules =
+  unreleased_claimed d e l k serial c drawn =
       let s = c.start.2 in
       let n = own_name d serial in
       let x = name_is d e l k serial c in
       let p : log_released (made e) l (own_name e serial) ≡ log_released (PortEvent.Sent k.queue s.batch ∷ made d) l n =
       λ i. log_released (s.published i) l (record { host = c.settings.host i; serial = serial }) in
       p ∙ (released_claim (made d) k.queue l k.first k.second n s.batch l n x s.is
-      ∙ unreleased (area_of d) (host_of d) (serial_of d) (made d) l n slot_rules c.inside (above d e l k serial c))
+      ∙ drawn l serial c.inside (above d e l k serial c))

@@ -1,5 +1,6 @@
 -- A claim and a release that were begun, at a later moment.
-use Rattle.std.proofs.Common.{Bool, List, None, Option, Some, false, refl, true, subst, sym, ℕ, ◌++◌, ◌<◌, ◌∙◌, ◌≡◌}
+use Rattle.std.proofs.Common.{Bool, List, None, Option, Some, arith, false, refl, subst, sym, true, ℕ, ◌++◌, ◌<◌, ◌∙◌}
+use Rattle.std.proofs.Common.{◌≡◌}
 use Rattle.nvme_model.specs.Array.{has_block}
 use Rattle.nvme_model.specs.declared.array.Range.{Range}
 use Rattle.nvme_model.specs.declared.operation.Op.{Op}
@@ -37,6 +38,7 @@ module _ {P : Type 0} (g : Ghosts P) where
       record {
         of = of;
         does = a.does;
+        drawn = omega (arith, a.drawn, x.drawn);
         claim = subst (λ (z : List PortEvent × ℕ × ℕ).
             IsClaimIn z.0 k.queue k.first k.second z.1 l (record { host = z.2; serial = serial }))
             (λ i. (sym x.log.more i, sym (number_same g d e k x.settings) i, sym x.settings.host i))

@@ -1,5 +1,5 @@
 -- What was begun and what is held, where the driver did nothing.
-use Rattle.std.proofs.Common.{None, ap, inl, refl, subst, sym, ℕ, ◌<◌, ◌∙◌, ◌≡◌}
+use Rattle.std.proofs.Common.{None, ap, arith, inl, refl, subst, sym, ℕ, ◌<◌, ◌∙◌, ◌≡◌}
 use Rattle.nvme_model.specs.declared.array.Range.{Range}
 use Rattle.driver_cas.specs.Cids.{QueueCids, held}
 use Rattle.driver_cas.proofs.Drivers.{reaped_calls}
@@ -44,6 +44,7 @@ module _ {P : Type 0} (g : Ghosts P) where
       record {
         inside = subst (λ (r : Range). slot_of c < r.blocks) (sym u.same.slots) of.inside;
         name = subst (λ (n : ℕ). IsName (record { host = n; serial = claim_serial c })) (sym u.same.host) of.name;
+        drawn = omega (arith, of.drawn, u.same.serial);
         believed =
             let p : log_believed (made e) (block_of (area_of e) (slot_of c)) (own_name e (claim_serial c))
             ≡ log_believed (made e) l n =

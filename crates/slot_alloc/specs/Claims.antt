@@ -1,10 +1,10 @@
 -- What contracts say of claims and releases.
 use Rattle.std.specs.Prelude.{Bool, List, None, Ok, Option, Result, Some, [], false, length, slice_get, true, ℕ, ◌++◌}
-use Rattle.std.specs.Prelude.{◌<◌, ◌∷◌, ◌≡◌}
+use Rattle.std.specs.Prelude.{◌<◌, ◌∷◌, ◌≡◌, ◌≤◌}
 use Rattle.nvme_model.specs.declared.operation.Op.{Op}
 use Rattle.nvme_model.specs.declared.status.Status.{Status}
 use Rattle.driver_calls.specs.declared.reply.Reply.{Reply}
-use Rattle.driver_cas.specs.Drivers.{HasSettings, IsCallOf, SaysOfPort, answer_to, area_of, made, number_of}
+use Rattle.driver_cas.specs.Drivers.{HasSettings, IsCallOf, SaysOfPort, answer_to, area_of, made, number_of, serial_of}
 use Rattle.driver_cas.specs.declared.call.Call.{Call}
 use Rattle.driver_cas.specs.declared.driver.Driver.{Driver}
 use Rattle.driver_cas.specs.declared.port.Port.{Ghosts}
@@ -34,12 +34,14 @@ module _ {P : Type 0} {g : Ghosts P} where
   pub record IsHeldBy (d : Driver P g) (c : Claim) : Type 0 where
     pub inside : slot_of c < (area_of d).blocks
     pub name : IsName (own_name d (claim_serial c))
+    pub drawn : claim_serial c ≤ serial_of d
     pub believed : log_believed (made d) (block_of (area_of d) (slot_of c)) (own_name d (claim_serial c)) ≡ true
 
   -- The call claims the slot at this block under this serial, and isn't answered.
   pub record IsAsking (d : Driver P g) (lba : ℕ) (call : Call P) (serial : ℕ) : Type 0 where
     pub of : IsCallOf d call
     pub does : call.op ≡ Op.Pair
+    pub drawn : serial ≤ serial_of d
     pub claim : IsClaimIn (made d) call.queue call.first call.second (number_of d call) lba (own_name d serial)
 
   -- the claim of the slot at hand is begun, or is due, where any slot will do
@@ -66,6 +68,7 @@ module _ {P : Type 0} {g : Ghosts P} where
   pub record IsWonBy (d : Driver P g) (c : Claim) : Type 0 where
     pub inside : slot_of c < (area_of d).blocks
     pub name : IsName (own_name d (claim_serial c))
+    pub drawn : claim_serial c ≤ serial_of d
     pub believed : log_released (made d) (block_of (area_of d) (slot_of c)) (own_name d (claim_serial c)) ≡ false
         → log_believed (made d) (block_of (area_of d) (slot_of c)) (own_name d (claim_serial c)) ≡ true
 

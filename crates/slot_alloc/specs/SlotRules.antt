@@ -1,5 +1,5 @@
 -- A driver whose log keeps the discipline of the slot area, and what it goes on to believe.
-use Rattle.std.specs.Prelude.{Bool, List, None, Option, Some, false, not, true, ℕ, ◌&&◌, ◌++◌, ◌==◌, ◌≡◌, ◌≤◌}
+use Rattle.std.specs.Prelude.{Bool, List, None, Option, Some, false, not, true, ℕ, ◌&&◌, ◌++◌, ◌<◌, ◌==◌, ◌≡◌, ◌≤◌}
 use Rattle.nvme_model.specs.Array.{has_block}
 use Rattle.nvme_model.specs.Slots.{Name, same_name}
 use Rattle.nvme_model.specs.declared.array.Range.{Range}
@@ -38,6 +38,11 @@ module _ {P : Type 0} {g : Ghosts P} where
   -- serials up to its last.
   abbrev pub KeepsSlotRules : Driver P g → Type 0
   KeepsSlotRules d = keeps_slot_rules (area_of d) (host_of d) (serial_of d) (made d) ≡ true
+
+  -- No name of this driver's host under a serial above its last was released from the slot area.
+  abbrev pub ReleasesDrawn : Driver P g → Type 0
+  ReleasesDrawn d = (l serial : ℕ) → has_block (area_of d) l ≡ true → serial_of d < serial →
+      log_released (made d) l (own_name d serial) ≡ false
 
   -- the same driver at a later moment
   pub record DriverContinues (d e : Driver P g) (released : Option ReleasedName) : Type 0 where

@@ -3,7 +3,7 @@
 ghost use Rattle.std.specs.Prelude.{[], ◌≡◌, ◌<◌, ◌++◌, ◌∷◌, IfOk, None, ℕ};
 ghost use Rattle.driver_cas.specs.Drivers.{IsCallOf, area_of};
 ghost use Rattle.slot_alloc.specs.Areas.{area};
-ghost use Rattle.slot_alloc.specs.SlotRules.{DriverContinues, KeepsSlotRules};
+ghost use Rattle.slot_alloc.specs.SlotRules.{DriverContinues, KeepsSlotRules, ReleasesDrawn};
 ghost use Rattle.slot_alloc.specs.Claims.{IsClaimingOf, IsUnreleased, claims_in};
 ghost use Rattle.slot_alloc.specs.Counts.{AddsClaim, IsPast, IsPastOn, claims_made};
 ghost use Rattle.slot_alloc.specs.Progresses.{IsClaimAsked, IsBesideOn, IsClaimingOn, IsFirstClaim, IsUnreleasedOn};
@@ -94,6 +94,7 @@ impl Slots {
         ensures past { IfOk result (λ k. IsPast k slot) }
         ensures of { IfOk result (λ k. IsClaimingOf driver.new k) }
         ensures unreleased { KeepsSlotRules driver.old → IfOk result (λ k. IsUnreleased driver.new k) }
+        ensures drawn { ReleasesDrawn driver.old → IfOk result (λ k. IsUnreleased driver.new k) }
     {
         let began = Snapshot::of(&*driver);
         let (call, serial) = driver.start_claim(self.block(slot))?;
@@ -122,6 +123,7 @@ impl Slots {
         ensures past { IfOk result (λ k. IsPast k i) }
         ensures of { IfOk result (λ k. IsClaimingOf driver.new k) }
         ensures unreleased { KeepsSlotRules driver.old → IfOk result (λ k. IsUnreleased driver.new k) }
+        ensures drawn { ReleasesDrawn driver.old → IfOk result (λ k. IsUnreleased driver.new k) }
     {
         self.begin(driver, Reach::One, i)
     }
@@ -141,6 +143,7 @@ impl Slots {
         ensures past { IfOk result (λ k. IsPast k 0) }
         ensures of { IfOk result (λ k. IsClaimingOf driver.new k) }
         ensures unreleased { KeepsSlotRules driver.old → IfOk result (λ k. IsUnreleased driver.new k) }
+        ensures drawn { ReleasesDrawn driver.old → IfOk result (λ k. IsUnreleased driver.new k) }
     {
         self.begin(driver, Reach::Any, 0)
     }
@@ -157,6 +160,7 @@ pub(crate) fn ask<P: Port>(driver: &mut Driver<P>, claiming: Claiming<P>) -> Pro
         (claims_made driver.new i ≡ claims_made driver.old i) × IsPastOn result i }
     ensures of { IsClaimingOn driver.new result }
     ensures unreleased { KeepsSlotRules driver.old → IsUnreleasedOn driver.new result }
+    ensures drawn { ReleasesDrawn driver.old → IsUnreleasedOn driver.new result }
     ensures others { (other : Call P) →
         IsCallOf driver.old other → IsCallOf driver.new other × IsBesideOn result other }
 {

@@ -24,7 +24,8 @@ ghost use Rattle.slot_log_laws.specs.Calls.{IsName};
 ghost use Rattle.slot_log_laws.specs.Hosts.{IsSlotHost, IsSlotView};
 ghost use Rattle.slot_log_laws.specs.Swaps.{log_believed};
 ghost use Rattle.slot_alloc.specs.Areas.{block_of, claim_serial, slot_of};
-ghost use Rattle.slot_alloc.specs.SlotRules.{DriverContinues, KeepsSlotRules, ReleasedName, is_another, own_name};
+ghost use Rattle.slot_alloc.specs.SlotRules.{DriverContinues, KeepsSlotRules, ReleasedName, ReleasesDrawn, is_another};
+ghost use Rattle.slot_alloc.specs.SlotRules.{own_name};
 ghost use Rattle.slot_alloc.specs.Claims.{ClaimSays, IsCallKept, IsClaimingOf, IsHeldBy, IsReleasingOf, IsUnreleased};
 ghost use Rattle.slot_alloc.specs.Claims.{is_other_claim, release_call, claim_stage};
 ghost use Rattle.slot_alloc.specs.Counts.{AddsNoClaim};
@@ -46,6 +47,21 @@ pub fn a_new_driver_keeps_the_rules<P: Port>(driver: &Driver<P>)
     ensures { made driver.now ≡ [] → KeepsSlotRules driver.now }
 {
     let _ = driver;
+}
+
+/// Of its own names a driver released none under a serial above its last, whatever it claims and takes over. So a claim
+/// that it begins is of a name that wasn't released, also where a takeover keeps it from the rules of slots.
+pub fn what_was_released_was_drawn<P: Port>(old: &Snapshot<Driver<P>>, new: &Driver<P>)
+    ensures fresh { made new.now ≡ [] → ReleasesDrawn new.now }
+    ensures ruled { KeepsSlotRules new.now → ReleasesDrawn new.now }
+    ensures stays { DriverContinues old.now.value new.now None →
+        ReleasesDrawn old.now.value → ReleasesDrawn new.now }
+    ensures released { (l serial : ℕ) →
+        DriverContinues old.now.value new.now (Some (l, own_name old.now.value serial)) →
+        serial ≤ last_of old.now.value → ReleasesDrawn old.now.value → ReleasesDrawn new.now }
+{
+    let _ = old;
+    let _ = new;
 }
 
 /// A driver's other calls touch no slot: what they publish and reap leaves a driver that keeps the rules of slots so,

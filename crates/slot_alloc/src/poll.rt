@@ -4,7 +4,7 @@ ghost use Rattle.std.specs.Prelude.{◌≡◌, ◌≢◌, ◌≤◌, None, false
 ghost use Rattle.driver_calls.specs.declared.reply.Reply.{Reply};
 ghost use Rattle.driver_cas.specs.Drivers.{IsCallOf};
 ghost use Rattle.driver_cas.specs.declared.call.Call.{Call};
-ghost use Rattle.slot_alloc.specs.SlotRules.{DriverContinues, KeepsSlotRules};
+ghost use Rattle.slot_alloc.specs.SlotRules.{DriverContinues, KeepsSlotRules, ReleasesDrawn};
 ghost use Rattle.slot_alloc.specs.Claims.{IsClaimingOf, IsUnreleased};
 ghost use Rattle.slot_alloc.specs.Counts.{IsPast, IsPastOn, claims_made};
 ghost use Rattle.slot_alloc.specs.Progresses.{IsBesideClaim, IsBesideOn, IsClaimingOn, IsHeldOn, IsLost, IsLostOn};
@@ -43,6 +43,7 @@ fn next<P: Port>(
         (claims_made driver.new i ≡ claims_made driver.old i) × IsPastOn result i }
     ensures of { IsClaimingOn driver.new result }
     ensures unreleased { KeepsSlotRules driver.old → IsUnreleasedOn driver.new result }
+    ensures drawn { ReleasesDrawn driver.old → IsUnreleasedOn driver.new result }
     ensures others { (other : Call P) →
         IsCallOf driver.old other → IsCallOf driver.new other × IsBesideOn result other }
 {
@@ -87,6 +88,7 @@ pub fn poll_claim<P: Port>(driver: &mut Driver<P>, claiming: Claiming<P>) -> Pro
     ensures held { IsUnreleased driver.old claiming → IsHeldOn driver.new result }
     ensures unreleased { KeepsSlotRules driver.old → IsUnreleased driver.old claiming
         → IsUnreleasedOn driver.new result }
+    ensures drawn { ReleasesDrawn driver.old → IsUnreleased driver.old claiming → IsUnreleasedOn driver.new result }
     ensures others { (other : Call P) → IsCallOf driver.old other → IsBesideClaim claiming.stage other →
         IsCallOf driver.new other × IsBesideOn result other }
 {

@@ -1,6 +1,6 @@
 -- A takeover after a poll of its call.
 use Rattle.std.proofs.lemmas.Bool.{or_right}
-use Rattle.std.proofs.Common.{List, Ok, Some, ap, eqb, false, inl, inr, subst, suc, sym, true, ℕ, ◌&&◌, ◌∙◌}
+use Rattle.std.proofs.Common.{List, Ok, Some, ap, arith, eqb, false, inl, inr, subst, suc, sym, true, ℕ, ◌&&◌, ◌∙◌}
 use Rattle.std.proofs.Common.{◌∷◌, ◌<◌, ◌≡◌, ◌≢◌}
 use Rattle.nvme_model.specs.Slots.{Name}
 use Rattle.nvme_model.specs.declared.array.Range.{Range}
@@ -98,6 +98,7 @@ module _ {P : Type 0} (g : Ghosts P) where
         of = call_of;
         does = of.does;
         inside = inside_there d e k of x;
+        drawn = omega (arith, of.drawn, x.same.serial);
         takeover = takeover_there d e k of x;
       }
 
@@ -125,6 +126,7 @@ module _ {P : Type 0} (g : Ghosts P) where
       let a = pair_answered (made e) k.call.queue k.call.first k.call.second (Ok Reply.Swapped) outcome in
       record {
         inside = inside_there d e k of x;
+        drawn = omega (arith, of.drawn, x.same.serial);
         queue = k.call.queue;
         first = k.call.first;
         second = k.call.second;
@@ -158,6 +160,7 @@ module _ {P : Type 0} (g : Ghosts P) where
   held_more d e h of x =
       record {
         inside = subst (λ (r : Range). slot_held h < r.blocks) (sym x.same.slots) of.inside;
+        drawn = omega (arith, of.drawn, x.same.serial);
         queue = of.queue;
         first = of.first;
         second = of.second;

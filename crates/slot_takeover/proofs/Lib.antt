@@ -5,3 +5,6 @@ mod Reading
 mod Untouched
 mod Knowing
 mod Holding
+mod Moments
+mod Claimed
+mod Going

@@ -54,6 +54,7 @@ module _ {P : Type 0} (g : Ghosts P) where
         of = s.of;
         does = s.does;
         inside = subst (λ (r : Range). i < r.blocks) (sym x.settings.slots) x.inside;
+        drawn = omega (arith, x.start.1);
         takeover = subst (λ (z : List PortEvent × ℕ × ℕ × Range).
             IsTakeoverIn z.0 k.queue k.first k.second z.1 (block_of z.3 i) dead
             (record { host = z.2; serial = serial }))

@@ -16,6 +16,7 @@ use Rattle.slot_takeover.specs.declared.held.HeldSlot.{HeldSlot}
 use Rattle.slot_takeover.specs.declared.holder.ReadingHolder.{ReadingHolder}
 use Rattle.slot_takeover.specs.declared.taking.TakingOver.{TakingOver}
 use Rattle.slot_takeover.proofs.Answering.{held_more, taking_polled}
+use Rattle.slot_takeover.proofs.Reading.{read_there}
 
 module _ {P : Type 0} (g : Ghosts P) where
   quiet : (d e : Driver P g) → IsUntouched d e → IsQuiet d e
@@ -38,6 +39,7 @@ module _ {P : Type 0} (g : Ghosts P) where
         of = call_kept on d e u k.call of.of;
         does = of.does;
         inside = subst (λ (r : Range). k.slot < r.blocks) (sym u.same.slots) of.inside;
+        reads = read_there g d e k of.reads (quiet d e u);
       }
 
   pub held_kept : (d e : Driver P g) (h : HeldSlot) → IsUntouched d e → HoldsTaken d h → HoldsTaken e h

@@ -1,5 +1,6 @@
 -- What polling a takeover gives.
 use Rattle.std.specs.Prelude.{Err, None, Ok, Option, Some, ◌≡◌, ◌⊎◌}
+use Rattle.nvme_model.specs.declared.operation.Op.{Op}
 use Rattle.driver_calls.specs.declared.reply.Reply.{Reply}
 use Rattle.driver_cas.specs.Drivers.{answer_to}
 use Rattle.driver_cas.specs.declared.driver.Driver.{Driver}
@@ -25,6 +26,6 @@ module _ {P : Type 0} {g : Ghosts P} where
       (j ≡ k) × IsTakingOverOf e j × ((f ≡ Fault.Busy) ⊎ (f ≡ Fault.NoMemory)) × (answer_to e k.call ≡ None)
   IsTakeoverPolled e k (TakeoverProgress.Held h) =
       (slot_held h ≡ k.slot) × (held_serial h ≡ k.serial) × IsCallAnswered e k.call (Ok Reply.Swapped) × HoldsTaken e h
-  IsTakeoverPolled e k TakeoverProgress.Taken = IsCallAnswered e k.call (Ok Reply.Differs)
+  IsTakeoverPolled e k TakeoverProgress.Taken = (k.call.op ≡ Op.Pair) × IsCallAnswered e k.call (Ok Reply.Differs)
   IsTakeoverPolled e k (TakeoverProgress.Failed (Fault.Status s)) = IsCallAnswered e k.call (Err s)
   IsTakeoverPolled e k (TakeoverProgress.Failed _) = ⊥

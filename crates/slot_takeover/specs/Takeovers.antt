@@ -1,5 +1,6 @@
 -- What contracts say of takeovers that were begun, and of slots that were taken over.
-use Rattle.std.specs.Prelude.{Err, List, Ok, Result, false, suc, true, ℕ, ◌<◌, ◌==◌, ◌≡◌}
+use Rattle.std.specs.Prelude.{Err, List, None, Ok, Option, Result, Some, false, suc, true, ℕ, ◌<◌, ◌==◌}
+use Rattle.std.specs.Prelude.{◌≡◌, ◌≤◌}
 use Rattle.nvme_model.specs.Slots.{Name, slot_block}
 use Rattle.nvme_model.specs.declared.operation.Op.{Op}
 use Rattle.nvme_model.specs.declared.submission.Submission.{Submission}
@@ -7,7 +8,7 @@ use Rattle.driver_calls.specs.Entries.{IsBatch}
 use Rattle.driver_calls.specs.Says.{IsCallIn}
 use Rattle.driver_calls.specs.declared.event.PortEvent.{PortEvent}
 use Rattle.driver_calls.specs.declared.request.CallData.{CallData}
-use Rattle.driver_cas.specs.Drivers.{IsCallOf, area_of, made, number_of}
+use Rattle.driver_cas.specs.Drivers.{IsCallOf, area_of, made, number_of, serial_of}
 use Rattle.driver_cas.specs.SlotStarts.{IsReleaseStart}
 use Rattle.driver_cas.specs.TakeoverStarts.{IsTakeoverStart}
 use Rattle.driver_cas.specs.declared.call.Call.{Call}
@@ -15,7 +16,7 @@ use Rattle.driver_cas.specs.declared.driver.Driver.{Driver}
 use Rattle.driver_cas.specs.declared.fault.Fault.{Fault}
 use Rattle.driver_cas.specs.declared.port.Port.{Ghosts}
 use Rattle.slot_alloc.specs.Areas.{block_of}
-use Rattle.slot_alloc.specs.SlotRules.{own_name}
+use Rattle.slot_alloc.specs.SlotRules.{ReleasedName, own_name}
 use Rattle.slot_alloc.specs.declared.release.Releasing.{Releasing}
 use Rattle.slot_log_laws.specs.Calls.{IsName, IsSentAs}
 use Rattle.slot_log_laws.specs.Swaps.{log_success}
@@ -56,6 +57,7 @@ module _ {P : Type 0} {g : Ghosts P} where
     pub of : IsCallOf d k.call
     pub does : k.call.op ≡ Op.Pair
     pub inside : k.slot < (area_of d).blocks
+    pub drawn : k.serial ≤ serial_of d
     pub takeover : IsTakeoverIn (made d) k.call.queue k.call.first k.call.second (number_of d k.call)
         (block_of (area_of d) k.slot) k.dead (own_name d k.serial)
 
@@ -69,6 +71,7 @@ module _ {P : Type 0} {g : Ghosts P} where
   -- By its log the driver took this slot over, under this serial: its takeover was answered by success.
   pub record HoldsTaken (d : Driver P g) (h : HeldSlot) : Type 0 where
     pub inside : slot_held h < (area_of d).blocks
+    pub drawn : held_serial h ≤ serial_of d
     pub queue : ℕ
     pub first : ℕ
     pub second : ℕ
@@ -81,6 +84,11 @@ module _ {P : Type 0} {g : Ghosts P} where
     pub is : IsTakeoverBatch (block_of (area_of d) (slot_held h)) first second dead (own_name d (held_serial h)) batch
     pub sent_as : IsSentAs (made d) queue number batch
     pub success : log_success (made d) queue (suc number) ≡ true
+
+  -- the name that is given back, where it is
+  abbrev pub given_back : Driver P g → HeldSlot → Result (Releasing P) (HeldSlot × Fault) → Option ReleasedName
+  given_back d h (Ok k) = Some (block_of (area_of d) (slot_held h), own_name d (held_serial h))
+  given_back d h (Err x) = None
 
   -- the release of the slot is begun, or the slot comes back and it is told why
   abbrev pub IsGivingBackBegun : Driver P g → Driver P g → HeldSlot → Result (Releasing P) (HeldSlot × Fault) → Type 0

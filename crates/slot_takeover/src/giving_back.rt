@@ -4,7 +4,8 @@ ghost use Rattle.std.specs.Prelude.{◌≡◌, IfOk};
 ghost use Rattle.driver_cas.specs.Drivers.{IsSameDriver, area_of};
 ghost use Rattle.slot_alloc.specs.Areas.{area};
 ghost use Rattle.slot_alloc.specs.Claims.{IsReleasingOf};
-ghost use Rattle.slot_takeover.specs.Takeovers.{HoldsTaken, IsGivingBackBegun};
+ghost use Rattle.slot_alloc.specs.SlotRules.{DriverContinues};
+ghost use Rattle.slot_takeover.specs.Takeovers.{HoldsTaken, IsGivingBackBegun, given_back};
 
 use crate::held::HeldSlot;
 use driver_cas::{Driver, Fault, Port};
@@ -27,6 +28,7 @@ pub fn give_back<P: Port>(
     ensures later { P.follows driver.old.port driver.new.port }
     ensures is { IsGivingBackBegun driver.old driver.new held result }
     ensures of { IfOk result (λ k. IsReleasingOf driver.new k) }
+    ensures goes_on { DriverContinues driver.old driver.new (given_back driver.old held result) }
 {
     match driver.start_release(slots.block(held.slot), held.serial) {
         Ok(call) => {

@@ -1,9 +1,10 @@
 //! Takeovers that were begun.
 
-ghost use Rattle.std.specs.Prelude.{◌≡◌, ◌≢◌, ◌≤◌, ◌<◌, IfOk};
+ghost use Rattle.std.specs.Prelude.{◌≡◌, ◌≢◌, ◌≤◌, ◌<◌, IfOk, None};
 ghost use Rattle.driver_cas.specs.Drivers.{HasSettings, IsCallOf, area_of, host_of};
 ghost use Rattle.driver_cas.specs.declared.call.Call.{Call};
 ghost use Rattle.slot_alloc.specs.Areas.{area};
+ghost use Rattle.slot_alloc.specs.SlotRules.{DriverContinues};
 ghost use Rattle.slot_takeover.specs.Takeovers.{IsTakeoverBegun, IsTakingOverOf};
 
 use driver_cas::{Call, Driver, Fault, Port};
@@ -61,6 +62,7 @@ pub fn take_over<P: Port>(
     ensures later { P.follows driver.old.port driver.new.port }
     ensures is { IsTakeoverBegun driver.old driver.new i dead result }
     ensures of { IfOk result (λ k. IsTakingOverOf driver.new k) }
+    ensures goes_on { DriverContinues driver.old driver.new None }
 {
     let dead_host = host_of_name(&dead);
     let dead_serial = serial_of_name(&dead);

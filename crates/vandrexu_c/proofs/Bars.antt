@@ -33,12 +33,9 @@ slot_open (UnderWay.Takeover k) holds i h = some_none 116 h
 slot_open (UnderWay.Holder k) holds i h = some_none 116 h
 
 pub claim_open : (h : SlotState) (i : ℕ) → claim_bar h i ≡ None
-    → (h.under_way ≡ UnderWay.Nothing) × (i < length h.holds) × (h.took_over ≡ false)
+    → (h.under_way ≡ UnderWay.Nothing) × (i < length h.holds)
 claim_open h i e =
-    let a = or_open _ h.took_over 121 e in
-    let b = or_open _ (is_held (slice_get h.holds i)) 120 a.0 in
-    let s = slot_open h.under_way h.holds i b.0 in
-    (s.0, s.1, a.1)
+    slot_open h.under_way h.holds i (or_open _ (is_held (slice_get h.holds i)) 120 e).0
 
 -- no call is under way
 nothing_on : (u : UnderWay) → is_under_way u ≡ false → u ≡ UnderWay.Nothing
@@ -48,11 +45,8 @@ nothing_on (UnderWay.Release k) e = absurd (let f : true ≡ false = e in cc)
 nothing_on (UnderWay.Takeover k) e = absurd (let f : true ≡ false = e in cc)
 nothing_on (UnderWay.Holder k) e = absurd (let f : true ≡ false = e in cc)
 
-pub any_open : (h : SlotState) → any_bar h ≡ None → (h.under_way ≡ UnderWay.Nothing) × (h.took_over ≡ false)
-any_open h e =
-    let a = or_open _ h.took_over 121 e in
-    let b = or_open None (is_under_way h.under_way) 116 a.0 in
-    (nothing_on h.under_way b.1, a.1)
+pub any_open : (h : SlotState) → any_bar h ≡ None → h.under_way ≡ UnderWay.Nothing
+any_open h e = nothing_on h.under_way (or_open None (is_under_way h.under_way) 116 e).1
 
 unlike : (a b : ℕ) → (a == b) ≡ false → a ≢ b
 unlike a b h e = let t : true ≡ false = sym (eq-eqb a b e) ∙ h in absurd (let f = t in cc)

@@ -5,25 +5,24 @@ use Rattle.std.specs.Prelude.{IfOk, None, [], slice_get}
 use Rattle.nvme_model.specs.Slots.{Name}
 use Rattle.nvme_model.specs.declared.operation.Op.{Op}
 use Rattle.driver_calls.specs.declared.request.CallData.{CallData}
-use Rattle.driver_cas.specs.Drivers.{HasSettings, IsSameDriver, area_of, host_of}
+use Rattle.driver_cas.specs.Drivers.{IsSameDriver, area_of}
 use Rattle.driver_cas.specs.declared.fault.Fault.{Fault}
 use Rattle.driver_cas.specs.contracts.shared_port.SharedPortPort.TheImpl.{ghosts}
 use Rattle.driver_cas.specs.declared.shared_port.SharedPort.{SharedPort}
-use Rattle.slot_log_laws.specs.Calls.{IsName}
-use Rattle.slot_alloc.proofs.GivingBack.{goes_on_start}
+use Rattle.slot_alloc.proofs.Drawn.{drawn_released}
 use Rattle.slot_alloc.proofs.Keeping.{IsSound, start_kept}
-use Rattle.slot_alloc.proofs.Starting.{goes_on_same, settings_of, slot_rules_same}
+use Rattle.slot_alloc.proofs.Starting.{slot_rules_same}
 use Rattle.slot_alloc.specs.Areas.{block_of, claim_serial, slot_of}
 use Rattle.slot_alloc.specs.Claims.{IsClaimingOf, IsHeldBy, IsReleasingOf, IsUnreleased}
 use Rattle.slot_alloc.specs.Releases.{IsReleaseBegun, released_by}
-use Rattle.slot_alloc.specs.SlotRules.{DriverContinues, KeepsSlotRules, own_name}
+use Rattle.slot_alloc.specs.SlotRules.{DriverContinues, KeepsSlotRules, ReleasesDrawn, own_name}
 use Rattle.slot_alloc.specs.declared.claim.Claim.{Claim}
 use Rattle.slot_alloc.specs.declared.claiming.Claiming.{Claiming}
 use Rattle.slot_alloc.specs.declared.release.Releasing.{Releasing}
 use Rattle.slot_alloc.specs.declared.slots.Slots.{Slots}
 use Rattle.slot_takeover.specs.Holders.{IsHolderBegun, IsReadingOf}
 use Rattle.slot_takeover.specs.Takeovers.{HoldsTaken, IsGivingBackBegun, IsTakeoverBegun, IsTakingOverOf}
-use Rattle.slot_takeover.specs.Takeovers.{held_serial, slot_held}
+use Rattle.slot_takeover.specs.Takeovers.{given_back, held_serial, slot_held}
 use Rattle.slot_takeover.specs.declared.held.HeldSlot.{HeldSlot}
 use Rattle.slot_takeover.specs.declared.holder.ReadingHolder.{ReadingHolder}
 use Rattle.slot_takeover.specs.declared.taking.TakingOver.{TakingOver}
@@ -33,7 +32,6 @@ use Rattle.vandrexu_c.specs.declared.slot_hold.Hold.{Hold}
 use Rattle.vandrexu_c.specs.declared.under_way.UnderWay.{UnderWay}
 use Rattle.vandrexu_c.proofs.Keeping.{call_of, kept, kept_on, kept_with, ok_of}
 use Rattle.vandrexu_c.proofs.Staying.{claim_stays, holds_stay_released, taken_stays}
-use Rattle.vandrexu_c.proofs.Takeovers.{takeover_on}
 
 -- true isn't false
 clash : {b : Bool} {X : Type 0} → b ≡ true → b ≡ false → X
@@ -41,17 +39,16 @@ clash t f = absurd (let e : true ≡ false = sym t ∙ f in cc)
 
 pub claim_kept : (d e : SlotDriver) (number : ℕ) (slots : Slots) (holds : List Hold) (took : Bool) (n : ℕ)
     (r : Result (Claiming SharedPort ghosts) Fault) (u : UnderWay)
-    → KeepsSlots d number slots holds UnderWay.Nothing took → took ≡ false → DriverContinues d e None
+    → KeepsSlots d number slots holds UnderWay.Nothing took → DriverContinues d e None
     → (KeepsSlotRules d → KeepsSlotRules e) → IfOk r (λ k. IsClaimingOf e k)
-    → (KeepsSlotRules d → IfOk r (λ k. IsUnreleased e k)) → BeginTold UnderWay.Claim r n u
+    → (ReleasesDrawn d → IfOk r (λ k. IsUnreleased e k)) → BeginTold UnderWay.Claim r n u
     → KeepsSlots e number slots holds u took
-claim_kept d e number slots holds took n r u k fresh x rules of free told =
+claim_kept d e number slots holds took n r u k x rules of free told =
     kept_on d e number slots holds UnderWay.Nothing u took took k x (λ t. t)
     (call_of UnderWay.Claim e took r n u
     (λ c is. (
-      fresh,
       ok_of (λ (w : Claiming SharedPort ghosts). IsClaimingOf e w) r of c is,
-      ok_of (λ (w : Claiming SharedPort ghosts). IsUnreleased e w) r (free (k.rules fresh)) c is,
+      ok_of (λ (w : Claiming SharedPort ghosts). IsUnreleased e w) r (free k.drawn) c is,
     )) told)
     (λ f. rules (k.rules f))
 
@@ -67,7 +64,8 @@ release_kept d e number slots holds later took i n c (Ok j) u k nothing at held 
     kept d e number slots holds later UnderWay.Nothing u took took k x.settings (ap length back)
     (subst (λ (hs : List Hold). AreHolds e took hs) (sym back)
     (holds_stay_released d e i (own_name d (claim_serial c)) took holds y nothing k.holds_are))
-    (subst (λ (v : UnderWay). IsUnderWay e took v) (sym told.1) of) (λ f. rules (k.rules f))
+    (subst (λ (v : UnderWay). IsUnderWay e took v) (sym told.1) of)
+    (drawn_released ghosts d e (block_of (area_of d) i) (claim_serial c) y held.drawn k.drawn) (λ f. rules (k.rules f))
 release_kept d e number slots holds later took i n c (Err w) u k nothing at held x is rules of told back =
     let same : w.0 ≡ c = is.0 in
     let this : IsHoldAt e took i (Hold.Claimed (record { claim = w.0 })) =
@@ -79,23 +77,19 @@ release_kept d e number slots holds later took i n c (Err w) u k nothing at held
 pub give_back_kept : (d e : SlotDriver) (number : ℕ) (slots : Slots) (holds later : List Hold) (took : Bool) (i n : ℕ)
     (h : HeldSlot) (r : Result (Releasing SharedPort) (HeldSlot × Fault)) (u : UnderWay)
     → KeepsSlots d number slots holds UnderWay.Nothing took → slice_get holds i ≡ Some Hold.Nothing → slot_held h ≡ i
-    → took ≡ true → HoldsTaken d h → IsSameDriver d e → ghosts.follows d.port e.port → IsGivingBackBegun d e h r
+    → took ≡ true → HoldsTaken d h → DriverContinues d e (given_back d h r) → IsGivingBackBegun d e h r
     → IfOk r (λ k. IsReleasingOf e k) → ReleaseTold UnderWay.Release r n u → later ≡ slot_back holds i r
     → KeepsSlots e number slots later u took
-give_back_kept d e number slots holds later took i n h (Ok j) u k nothing at old held same follows is of told back =
+give_back_kept d e number slots holds later took i n h (Ok j) u k nothing at old held x is of told back =
     let name = own_name d (held_serial h) in
-    let x : DriverContinues d e (Some (block_of (area_of d) (slot_held h), name)) =
-    goes_on_start ghosts d e (block_of (area_of d) (slot_held h)) (held_serial h) (Ok j.call) same follows is.2
-    held.name in
     let y : DriverContinues d e (Some (block_of (area_of d) i, name)) =
     subst (λ (s : ℕ). DriverContinues d e (Some (block_of (area_of d) s, name))) at x in
     kept d e number slots holds later UnderWay.Nothing u took took k x.settings (ap length back)
     (subst (λ (hs : List Hold). AreHolds e took hs) (sym back)
     (holds_stay_released d e i name took holds y nothing k.holds_are))
-    (subst (λ (v : UnderWay). IsUnderWay e took v) (sym told.1) of) (λ f. clash old f)
-give_back_kept d e number slots holds later took i n h (Err w) u k nothing at old held same follows is of told back =
-    let x : DriverContinues d e None =
-    goes_on_same ghosts d e (settings_of ghosts d e same) same.serial follows is.1.0.0 in
+    (subst (λ (v : UnderWay). IsUnderWay e took v) (sym told.1) of)
+    (drawn_released ghosts d e (block_of (area_of d) i) (held_serial h) y held.drawn k.drawn) (λ f. clash old f)
+give_back_kept d e number slots holds later took i n h (Err w) u k nothing at old held x is of told back =
     let this : IsHoldAt e took i (Hold.TakenOver (record { held = w.0 })) =
     subst (λ (b : HeldSlot). (slot_held b ≡ i) × (took ≡ true) × HoldsTaken e b) (sym is.0)
     (at, old, taken_stays d e None h x held) in
@@ -105,22 +99,16 @@ give_back_kept d e number slots holds later took i n h (Err w) u k nothing at ol
 
 pub takeover_kept : (d e : SlotDriver) (number : ℕ) (slots : Slots) (holds : List Hold) (took : Bool) (i n : ℕ)
     (dead : Name) (r : Result (TakingOver SharedPort) Fault) (u : UnderWay)
-    → KeepsSlots d number slots holds UnderWay.Nothing took → HasSettings d e → ghosts.follows d.port e.port
+    → KeepsSlots d number slots holds UnderWay.Nothing took → DriverContinues d e None
     → IsTakeoverBegun d e i dead r → IfOk r (λ k. IsTakingOverOf e k) → BeginTold UnderWay.Takeover r n u
     → KeepsSlots e number slots holds u (took_over_by took r)
-takeover_kept d e number slots holds took i n dead (Ok j) u k settings follows is of told =
-    let named : IsName (record { host = host_of d; serial = j.serial }) =
-    subst (λ (h : ℕ). IsName (record { host = h; serial = j.serial })) settings.host of.takeover.name in
-    let dead_name : IsName dead = subst IsName is.1 of.takeover.dead_name in
-    let x : DriverContinues d e None =
-    takeover_on ghosts d e (block_of (area_of d) i) dead j.call j.serial settings follows is.2 dead_name named in
+takeover_kept d e number slots holds took i n dead (Ok j) u k x is of told =
     kept_on d e number slots holds UnderWay.Nothing u took true k x (λ t. refl)
     (subst (λ (v : UnderWay). IsUnderWay e true v) (sym told.1) (refl, of)) (λ f. clash refl f)
-takeover_kept d e number slots holds took i n dead (Err w) u k settings follows is of told =
-    let x : DriverContinues d e None = goes_on_same ghosts d e settings is.0 follows is.1.0 in
+takeover_kept d e number slots holds took i n dead (Err w) u k x is of told =
     kept_on d e number slots holds UnderWay.Nothing u took took k x (λ t. t)
     (subst (λ (v : UnderWay). IsUnderWay e took v) (sym told.1) tt)
-    (λ f. slot_rules_same ghosts d e settings is.0 is.1.0 (k.rules f))
+    (λ f. slot_rules_same ghosts d e x.settings is.0 is.1.0 (k.rules f))
 
 -- a Read asks for one block, and writes none
 reads_one : (d : SlotDriver) (l : ℕ) → IsSound (area_of d) (record { op = Op.Read; slba = l; blocks = 1 })

@@ -4,7 +4,9 @@ use Rattle.std.proofs.Common.{sym, true, ℕ, ◌∙◌, ◌≡◌}
 use Rattle.std.specs.Prelude.{IfOk, None, slice_set}
 use Rattle.driver_cas.specs.Drivers.{HasSettings}
 use Rattle.driver_cas.specs.declared.fault.Fault.{Fault}
-use Rattle.slot_alloc.specs.SlotRules.{DriverContinues, KeepsSlotRules}
+use Rattle.driver_cas.specs.contracts.shared_port.SharedPortPort.TheImpl.{ghosts}
+use Rattle.slot_alloc.proofs.Drawn.{drawn_on}
+use Rattle.slot_alloc.specs.SlotRules.{DriverContinues, KeepsSlotRules, ReleasesDrawn}
 use Rattle.slot_alloc.specs.declared.slots.Slots.{Slots}
 use Rattle.vandrexu_c.specs.Begins.{BeginTold}
 use Rattle.vandrexu_c.specs.SlotStates.{AreHolds, IsHoldAt, IsUnderWay, KeepsSlots, SlotDriver}
@@ -37,14 +39,16 @@ call_of f e took (Err x) n u h t = subst (λ (v : UnderWay). IsUnderWay e took v
 pub kept : (d e : SlotDriver) (number : ℕ) (slots : Slots) (holds later : List Hold) (u v : UnderWay)
     (took took' : Bool) → KeepsSlots d number slots holds u took → HasSettings d e → length later ≡ length holds
     → AreHolds e took' later
-    → IsUnderWay e took' v → (took' ≡ false → KeepsSlotRules e) → KeepsSlots e number slots later v took'
-kept d e number slots holds later u v took took' k s count holds_are call rules =
+    → IsUnderWay e took' v → ReleasesDrawn e → (took' ≡ false → KeepsSlotRules e)
+    → KeepsSlots e number slots later v took'
+kept d e number slots holds later u v took took' k s count holds_are call drawn rules =
     record {
       named = k.named ∙ sym s.host;
       area_is = s.slots ∙ k.area_is;
       count = count ∙ k.count;
       holds_are = holds_are;
       call = call;
+      drawn = drawn;
       rules = rules;
     }
 
@@ -54,7 +58,7 @@ pub kept_on : (d e : SlotDriver) (number : ℕ) (slots : Slots) (holds : List Ho
     → IsUnderWay e took' v → (took' ≡ false → KeepsSlotRules e) → KeepsSlots e number slots holds v took'
 kept_on d e number slots holds u v took took' k x so call rules =
     kept d e number slots holds holds u v took took' k x.settings refl
-    (holds_stay d e took took' holds x so k.holds_are) call rules
+    (holds_stay d e took took' holds x so k.holds_are) call (drawn_on ghosts d e x k.drawn) rules
 
 -- and with one more, at its place
 pub kept_with : (d e : SlotDriver) (number : ℕ) (slots : Slots) (holds : List Hold) (u v : UnderWay) (took : Bool)
@@ -63,7 +67,8 @@ pub kept_with : (d e : SlotDriver) (number : ℕ) (slots : Slots) (holds : List 
 kept_with d e number slots holds u v took i h k x this call rules =
     kept d e number slots holds (slice_set holds i h) u v took took k x.settings (length-set holds i h)
     (element_of (IsHoldAt e took) holds i h
-    (λ j w apart there. holds_stay d e took took holds x (λ t. t) k.holds_are j w there) this) call rules
+    (λ j w apart there. holds_stay d e took took holds x (λ t. t) k.holds_are j w there) this) call
+    (drawn_on ghosts d e x k.drawn) rules
 
 -- the same of a call that is none
 pub idle : (d : SlotDriver) (number : ℕ) (slots : Slots) (holds : List Hold) (u : UnderWay) (took : Bool)

@@ -13,4 +13,3 @@ pub mod Polled
 pub mod Releasing
 pub mod SlotSent
 pub mod Staying
-pub mod Takeovers

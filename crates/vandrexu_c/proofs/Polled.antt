@@ -68,10 +68,10 @@ told_kept e number slots took t n reply u holds k told =
 
 pub claim_polled : (d e : SlotDriver) (number : ℕ) (slots : Slots) (holds later : List Hold) (took : Bool) (n : ℕ)
     (reply : SlotReply) (u : UnderWay) (p : Progress SharedPort ghosts)
-    → KeepsSlots d number slots holds UnderWay.Nothing took → took ≡ false → DriverContinues d e None
+    → KeepsSlots d number slots holds UnderWay.Nothing took → DriverContinues d e None
     → (KeepsSlotRules d → KeepsSlotRules e) → IsClaimingOn e p → IsHeldOn e p → IsUnreleasedOn e p
     → IsTold (claim_told holds p) n reply u later → KeepsSlots e number slots later u took
-claim_polled d e number slots holds later took n reply u p k fresh x rules of held free told =
+claim_polled d e number slots holds later took n reply u p k x rules of held free told =
     told_kept e number slots took (claim_told holds p) n reply u later (go p of held free) told
   where
     stays : (v : UnderWay) → IsUnderWay e took v → KeepsSlots e number slots holds v took
@@ -80,8 +80,8 @@ claim_polled d e number slots holds later took n reply u p k fresh x rules of he
 
     go : (p : Progress SharedPort ghosts) → IsClaimingOn e p → IsHeldOn e p → IsUnreleasedOn e p
         → KeepsSlots e number slots (claim_told holds p).holds (claim_told holds p).call took
-    go (Progress.Pending j) of held free = stays (UnderWay.Claim j) (fresh, of, free)
-    go (Progress.Later f j) of held free = stays (UnderWay.Claim j) (fresh, of, free)
+    go (Progress.Pending j) of held free = stays (UnderWay.Claim j) (of, free)
+    go (Progress.Later f j) of held free = stays (UnderWay.Claim j) (of, free)
     go (Progress.Held c) of held free =
         kept_with d e number slots holds UnderWay.Nothing UnderWay.Nothing took (slot_of c)
         (Hold.Claimed (record { claim = c })) k x (refl, held) tt (λ f. rules (k.rules f))

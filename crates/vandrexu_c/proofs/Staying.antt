@@ -49,6 +49,7 @@ claim_stays d e r c x other of =
     record {
       inside = subst (λ (s : Range). slot_of c < s.blocks) (sym x.settings.slots) of.inside;
       name = subst (λ (n : ℕ). IsName (record { host = n; serial = claim_serial c })) (sym x.settings.host) of.name;
+      drawn = omega (arith, of.drawn, x.drawn);
       believed =
           let p : log_believed (made e) (block_of (area_of e) (slot_of c)) (own_name e (claim_serial c))
           ≡ log_believed (made e) (block_of (area_of d) (slot_of c)) (own_name d (claim_serial c)) =
@@ -63,6 +64,7 @@ pub taken_stays : (d e : SlotDriver) (r : Option ReleasedName) (h : HeldSlot) �
 taken_stays d e r h x of =
     record {
       inside = subst (λ (s : Range). slot_held h < s.blocks) (sym x.settings.slots) of.inside;
+      drawn = omega (arith, of.drawn, x.drawn);
       queue = of.queue;
       first = of.first;
       second = of.second;

@@ -53,14 +53,13 @@ abbrev pub or_bar : Option ℕ → Bool → ℕ → Option ℕ
 or_bar (Some n) bars number = Some n
 or_bar None bars number = if bars then Some number else None
 
--- why no claim is: the host has the slot, or has taken over
+-- why no claim is: the host has the slot
 abbrev pub claim_bar : SlotState → ℕ → Option ℕ
-claim_bar h i =
-    or_bar (or_bar (slot_bar h.under_way h.holds i) (is_held (slice_get h.holds i)) 120) h.took_over 121
+claim_bar h i = or_bar (slot_bar h.under_way h.holds i) (is_held (slice_get h.holds i)) 120
 
--- why no claim of any slot is: a call is under way, or the host has taken over
+-- why no claim of any slot is: a call is under way
 abbrev pub any_bar : SlotState → Option ℕ
-any_bar h = or_bar (or_bar None (is_under_way h.under_way) 116) h.took_over 121
+any_bar h = or_bar None (is_under_way h.under_way) 116
 
 -- why no release is: the host hasn't the slot
 abbrev pub release_bar : SlotState → ℕ → Option ℕ

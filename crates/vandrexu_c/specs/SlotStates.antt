@@ -6,7 +6,7 @@ use Rattle.driver_cas.specs.contracts.shared_port.SharedPortPort.TheImpl.{ghosts
 use Rattle.driver_cas.specs.declared.shared_port.SharedPort.{SharedPort}
 use Rattle.slot_alloc.specs.Areas.{area, slot_of}
 use Rattle.slot_alloc.specs.Claims.{IsClaimingOf, IsHeldBy, IsReleasingOf, IsUnreleased}
-use Rattle.slot_alloc.specs.SlotRules.{KeepsSlotRules}
+use Rattle.slot_alloc.specs.SlotRules.{KeepsSlotRules, ReleasesDrawn}
 use Rattle.slot_alloc.specs.declared.slots.Slots.{Slots}
 use Rattle.slot_takeover.specs.Holders.{IsReadingOf}
 use Rattle.slot_takeover.specs.Takeovers.{HoldsTaken, IsTakingOverOf, slot_held}
@@ -32,10 +32,10 @@ IsHoldAt d took i Hold.Nothing = Unit {0}
 IsHoldAt d took i (Hold.Claimed k) = (slot_of k.claim ≡ i) × IsHeldBy d k.claim
 IsHoldAt d took i (Hold.TakenOver k) = (slot_held k.held ≡ i) × (took ≡ true) × HoldsTaken d k.held
 
--- the call is one of the driver; a claim is one of a host that has taken nothing over
+-- the call is one of the driver's, and no release of the name of a claim was published
 abbrev pub IsUnderWay : SlotDriver → Bool → UnderWay → Type 0
 IsUnderWay d took UnderWay.Nothing = Unit {0}
-IsUnderWay d took (UnderWay.Claim k) = (took ≡ false) × IsClaimingOf d k × IsUnreleased d k
+IsUnderWay d took (UnderWay.Claim k) = IsClaimingOf d k × IsUnreleased d k
 IsUnderWay d took (UnderWay.Release k) = IsReleasingOf d k
 IsUnderWay d took (UnderWay.Takeover k) = (took ≡ true) × IsTakingOverOf d k
 IsUnderWay d took (UnderWay.Holder k) = IsReadingOf d k
@@ -44,8 +44,8 @@ IsUnderWay d took (UnderWay.Holder k) = IsReadingOf d k
 abbrev pub AreHolds : SlotDriver → Bool → List Hold → Type 0
 AreHolds d took holds = (i : ℕ) (k : Hold) → slice_get holds i ≡ Some k → IsHoldAt d took i k
 
--- What always is so of a slot host: each hold and the call are the driver's, and until the first takeover its driver
--- keeps the rules of slots.
+-- What always is so of a slot host: each hold and the call are the driver's, and it released no name under a serial
+-- that it hasn't drawn. Until the first takeover its driver keeps the rules of slots.
 pub record KeepsSlots (d : SlotDriver) (number : ℕ) (slots : Slots) (holds : List Hold) (u : UnderWay) (took : Bool)
     : Type 0 where
   pub named : number ≡ host_of d
@@ -53,6 +53,7 @@ pub record KeepsSlots (d : SlotDriver) (number : ℕ) (slots : Slots) (holds : L
   pub count : length holds ≡ (area slots).blocks
   pub holds_are : AreHolds d took holds
   pub call : IsUnderWay d took u
+  pub drawn : ReleasesDrawn d
   pub rules : took ≡ false → KeepsSlotRules d
 
 -- no call is under way, and the host has nothing at slot i

@@ -16,8 +16,6 @@ pub(crate) const NOT_HELD: u32 = 119;
 
 pub(crate) const HELD: u32 = 120;
 
-pub(crate) const TOOK_OVER: u32 = 121;
-
 pub(crate) const BAD_NAME: u32 = 122;
 
 pub(crate) const BAD_AREA: u32 = 123;

@@ -5,7 +5,7 @@ ghost use Rattle.vandrexu_c.specs.Begins.{BeginTold, is_held, is_hold, is_no_dea
 ghost use Rattle.vandrexu_c.specs.Begins.{ReleaseTold, claim_back, slot_back, slot_bar, took_over_by};
 ghost use Rattle.vandrexu_c.specs.declared.under_way.UnderWay.TheVariants as calls;
 
-use crate::numbers::{BAD_NAME, HELD, IN_CALL, NO_SLOT, NOT_HELD, TOOK_OVER};
+use crate::numbers::{BAD_NAME, HELD, IN_CALL, NO_SLOT, NOT_HELD};
 use crate::slot_hold::{Hold, KeptClaim, KeptSlot};
 use crate::slot_host::SlotHost;
 use crate::under_way::UnderWay;
@@ -14,6 +14,7 @@ use nvme_model::Name;
 use slot_alloc::{Claim, Claiming, Releasing};
 use slot_takeover::{HeldSlot, ReadingHolder, TakingOver, give_back, read_holder, take_over};
 use std::mem;
+use std::snapshot::Snapshot;
 
 // Whether a call is under way.
 fn is_begun(under_way: &UnderWay) -> bool
@@ -99,11 +100,14 @@ fn keep_claim(under_way: &mut UnderWay, begun: Result<Claiming<SharedPort<'stati
 }
 
 // Whether a host has begun a takeover, by now.
-fn has_begun(took_over: bool, begun: &Result<TakingOver<SharedPort<'static>>, Fault>) -> bool
-    ensures { result ≡ took_over_by took_over begun.now }
+fn has_begun(
+    took_over: Snapshot<bool>,
+    begun: &Result<TakingOver<SharedPort<'static>>, Fault>,
+) -> Snapshot<bool>
+    ensures { result.value ≡ took_over_by took_over.value begun.now }
 {
     match begun {
-        Ok(_) => true,
+        Ok(_) => Snapshot::of(&true),
         Err(_) => took_over,
     }
 }
@@ -208,7 +212,7 @@ impl SlotHost {
     {
         let bar = bar(&self.under_way, self.holds.as_slice(), slot);
         let had = is_had_at(self.holds.as_slice(), slot);
-        or(or(bar, had, HELD), self.took_over, TOOK_OVER)
+        or(bar, had, HELD)
     }
 
     // Why no claim of any slot is begun.
@@ -216,7 +220,7 @@ impl SlotHost {
         ensures { result ≡ any_bar self.now }
     {
         let under_way = is_begun(&self.under_way);
-        or(or(None, under_way, IN_CALL), self.took_over, TOOK_OVER)
+        or(None, under_way, IN_CALL)
     }
 
     // Why no release of the slot is begun.

@@ -96,8 +96,7 @@ pub extern "C" fn vandrexu_slot_host_free(alloc: Global, host: &mut SlotHandle)
 }
 
 /// Begins to claim a slot: 0; or 116 where a call is under way; or 118 where there is no such slot; or 120 where the
-/// host has it; or 121 where the host has begun a takeover; or the number of the fault; or 101 where the handle owns
-/// nothing.
+/// host has it; or the number of the fault; or 101 where the handle owns nothing.
 #[unsafe(no_mangle)]
 pub extern "C" fn vandrexu_slot_claim(alloc: Global, host: &mut SlotHandle, slot: u32) -> u32
     ensures no_handle { host.old.held.host ≡ None → (result ≡ 101) × (host.new.held.host ≡ None) }
@@ -108,8 +107,8 @@ pub extern "C" fn vandrexu_slot_claim(alloc: Global, host: &mut SlotHandle, slot
 }
 
 /// Begins to claim the first slot that nobody has: slot 0, and each further one once it is answered that the one before
-/// is somebody's: 0; or 116 where a call is under way; or 121 where the host has begun a takeover; or the number of the
-/// fault; or 101 where the handle owns nothing.
+/// is somebody's: 0; or 116 where a call is under way; or the number of the fault; or 101 where the handle owns
+/// nothing.
 #[unsafe(no_mangle)]
 pub extern "C" fn vandrexu_slot_claim_any(alloc: Global, host: &mut SlotHandle) -> u32
     ensures no_handle { host.old.held.host ≡ None → (result ≡ 101) × (host.new.held.host ≡ None) }

@@ -5,6 +5,7 @@ use crate::under_way::UnderWay;
 use driver_cas::{Driver, SharedPort};
 use slot_alloc::Slots;
 use std::marker::Model;
+use std::snapshot::Snapshot;
 
 /// A driver, its slots, what the host has at each, and its call.
 #[derive(Drop)]
@@ -16,8 +17,8 @@ pub struct SlotHost {
     // One for each slot.
     pub(crate) holds: Vec<Hold>,
     pub(crate) under_way: UnderWay,
-    // It has begun a takeover, and claims nothing more.
-    pub(crate) took_over: bool,
+    // Whether it has begun a takeover: until then its driver keeps the rules of slots.
+    pub(crate) took_over: Snapshot<bool>,
 }
 
 impl Model for SlotHost {
@@ -34,8 +35,8 @@ impl Model for SlotHost {
       slots = h.slots;
       holds = h.holds.items;
       under_way = h.under_way;
-      took_over = h.took_over;
+      took_over = h.took_over.value;
     } };
 
-    ghost invariant = { λ h. KeepsSlots h.driver h.number h.slots h.holds.items h.under_way h.took_over };
+    ghost invariant = { λ h. KeepsSlots h.driver h.number h.slots h.holds.items h.under_way h.took_over.value };
 }

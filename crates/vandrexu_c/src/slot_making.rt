@@ -17,6 +17,7 @@ use driver_cas::{Driver, SharedPort};
 use nvme_model::array::Range;
 use slot_alloc::Slots;
 use std::alloc::{AllocError as NoMemory, Global};
+use std::snapshot::Snapshot;
 
 /// The blocks of so many slots from block `first` on; None where there is none, or one is behind block 65,535.
 pub(crate) fn area_given(first: u64, count: u32) -> Option<Range>
@@ -64,7 +65,7 @@ fn host_of(
         slots: Slots::new(area.slba, area.blocks),
         holds,
         under_way: UnderWay::Nothing,
-        took_over: false,
+        took_over: Snapshot::of(&false),
     };
     match Box::new(alloc, host) {
         Ok(host) => Ok(host),

@@ -73,7 +73,6 @@ pub const VANDREXU_CALL_NO_SERIAL: u32 = 48;
 pub const VANDREXU_NO_SLOT: u32 = 118;
 pub const VANDREXU_NOT_HELD: u32 = 119;
 pub const VANDREXU_HELD: u32 = 120;
-pub const VANDREXU_TOOK_OVER: u32 = 121;
 pub const VANDREXU_BAD_NAME: u32 = 122;
 pub const VANDREXU_BAD_AREA: u32 = 123;
 

@@ -116,7 +116,6 @@ errors! {
     NoSlot = VANDREXU_NO_SLOT, "no such slot";
     NotHeld = VANDREXU_NOT_HELD, "the host hasn't the slot";
     Held = VANDREXU_HELD, "the host has the slot";
-    TookOver = VANDREXU_TOOK_OVER, "the host has begun a takeover, and claims nothing any more";
     BadName = VANDREXU_BAD_NAME, "the name has a zero in it, or is of the host itself";
     BadArea = VANDREXU_BAD_AREA, "there would be no slot, or one behind block 65,535";
     /// (Also where that host was dropped.)

@@ -143,9 +143,8 @@ impl SlotHost {
     /// Begins to claim a slot: to swap zeros for the host's next name.
     ///
     /// # Errors
-    /// [`Error::InCall`], [`Error::NoSlot`]; [`Error::Held`]; [`Error::TookOver`] of a host that has begun a takeover;
-    /// [`Error::CallNoRoom`], [`Error::Busy`], [`Error::NoMemory`], [`Error::CallNoSerial`]: nothing was
-    /// published.
+    /// [`Error::InCall`], [`Error::NoSlot`]; [`Error::Held`]; [`Error::CallNoRoom`], [`Error::Busy`],
+    /// [`Error::NoMemory`], [`Error::CallNoSerial`]: nothing was published.
     pub fn claim(&mut self, slot: u32) -> Result<()> {
         // SAFETY: nobody else has the handle, which isn't Sync.
         told(unsafe { sys::vandrexu_slot_claim(self.handle.get(), slot) })
@@ -156,8 +155,8 @@ impl SlotHost {
     /// told where each was, at a moment of its own.
     ///
     /// # Errors
-    /// [`Error::InCall`]; [`Error::TookOver`] of a host that has begun a takeover; [`Error::CallNoRoom`],
-    /// [`Error::Busy`], [`Error::NoMemory`], [`Error::CallNoSerial`]: nothing was published.
+    /// [`Error::InCall`]; [`Error::CallNoRoom`], [`Error::Busy`], [`Error::NoMemory`], [`Error::CallNoSerial`]: nothing
+    /// was published.
     pub fn claim_any(&mut self) -> Result<()> {
         // SAFETY: as of claim.
         told(unsafe { sys::vandrexu_slot_claim_any(self.handle.get()) })
@@ -174,13 +173,12 @@ impl SlotHost {
         told(unsafe { sys::vandrexu_slot_release(self.handle.get(), slot) })
     }
 
-    /// Begins to take a slot over: to swap the name of a dead host for the host's next name. From its first takeover on a
-    /// host claims nothing any more.
+    /// Begins to take a slot over: to swap the name of a dead host for the host's next name.
     ///
     /// That the dead host does nothing any more is yours to see.
     ///
     /// ```
-    /// use vandrexu::{Config, Disk, Error, Name, SlotReply};
+    /// use vandrexu::{Config, Disk, Name, SlotReply};
     ///
     /// let mut disk = Disk::with_slots(&Config { pairs: 2, cqs: 2, ..Config::default() }, 2, 2, 4)?;
     /// let (mut one, mut two) = (disk.slot_host(1, 1)?, disk.slot_host(2, 2)?);
@@ -195,8 +193,11 @@ impl SlotHost {
     /// disk.serve(2)?;
     /// // (a takeover is a fused pair: it has two completions, and each poll reaps one)
     /// assert_eq!((two.poll()?, two.poll()?), (SlotReply::Pending, SlotReply::Held(0)));
-    /// assert_eq!(two.claim(1), Err(Error::TookOver));
-    /// # Ok::<(), Error>(())
+    /// // (and it claims another one)
+    /// two.claim(1)?;
+    /// disk.serve(2)?;
+    /// assert_eq!((two.poll()?, two.poll()?), (SlotReply::Pending, SlotReply::Held(1)));
+    /// # Ok::<(), vandrexu::Error>(())
     /// ```
     ///
     /// # Errors

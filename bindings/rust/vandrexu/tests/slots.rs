@@ -79,7 +79,10 @@ fn of_any_slots_the_first_that_nobody_has() -> Result<(), Error> {
     let SlotReply::Of(name) = over(&mut disk, 1, &mut one) else { panic!("it has a name") };
     one.take_over(3, name)?;
     assert_eq!(over(&mut disk, 1, &mut one), SlotReply::Held(3));
-    assert_eq!(one.claim_any(), Err(Error::TookOver));
+    // behind a takeover, too
+    one.release(2)?;
+    assert_eq!(over(&mut disk, 1, &mut one), SlotReply::Released);
+    assert_eq!(any(&mut disk, 1, &mut one), SlotReply::Held(2));
     Ok(())
 }
 
@@ -253,7 +256,6 @@ fn the_slots_of_a_dropped_host_are_taken_over() -> Result<(), Error> {
     assert_eq!((two.take_over(0, first), two.claim(0)), (Err(Error::Held), Err(Error::Held)));
     two.release(1)?;
     assert_eq!(over(&mut disk, 2, &mut two), SlotReply::Released);
-    assert_eq!(two.claim(1), Err(Error::TookOver));
     // another name than the slot has, and one of a slot that is free
     for slot in [2, 1] {
         two.take_over(slot, first)?;
@@ -263,8 +265,13 @@ fn the_slots_of_a_dropped_host_are_taken_over() -> Result<(), Error> {
     assert_eq!(over(&mut disk, 2, &mut two), SlotReply::Held(2));
     two.ask_holder(2)?;
     assert_eq!(over(&mut disk, 2, &mut two), SlotReply::Of(Name { host: 2, serial: 6 }));
-    // what was taken over is released, and what was claimed before
-    for slot in [0, 2, 3] {
+    // a host that took slots over claims again
+    two.claim(1)?;
+    assert_eq!(over(&mut disk, 2, &mut two), SlotReply::Held(1));
+    two.ask_holder(1)?;
+    assert_eq!(over(&mut disk, 2, &mut two), SlotReply::Of(Name { host: 2, serial: 7 }));
+    // what was taken over is released, and what was claimed before and behind
+    for slot in [0, 1, 2, 3] {
         two.release(slot)?;
         assert_eq!(over(&mut disk, 2, &mut two), SlotReply::Released);
         assert_eq!(two.release(slot), Err(Error::NotHeld));

@@ -7,6 +7,7 @@ use Rattle.slot_alloc.proofs.Asking.{unreleased_now}
 use Rattle.slot_alloc.proofs.Counting.{counts_claimed, counts_same, not_counted}
 use Rattle.slot_alloc.proofs.Starting.{slot_rules_claimed, slot_rules_same, goes_on_claimed, goes_on_same}
 use Rattle.slot_alloc.specs.Counts.{claims_made}
+use Rattle.slot_alloc.proofs.Drawn.{drawn_ruled}
 use Rattle.slot_alloc.proofs.claiming.ask.Goals as goal
 
 pub returns-in-Ok-clause-slot_rules : goal.returns-in-Ok-clause-slot_rules
@@ -20,6 +21,17 @@ returns-in-Ok-clause-slot_rules g c =
     x.ensures.later x.ensures.is x.ensures.law.0 x.ensures.law.1 x.ensures.law.2 c.requires.of.area_is
     c.requires.of.inside)
 
+pub returns-in-Ok-clause-drawn : goal.returns-in-Ok-clause-drawn
+returns-in-Ok-clause-drawn g c = λ drawn.
+    let d = c.args.driver.now in
+    let e = c.start_claim.new.self in
+    let k = c.args.claiming in
+    let x = c.in-Ok in
+    unreleased_now g.P.Port d e k.slot x.call x.serial
+    (claims_of g.P.Port d e k.slots k.slot c.block.result x.call x.serial c.block.ensures x.ensures.settings
+    x.ensures.later x.ensures.is x.ensures.law.0 x.ensures.law.1 x.ensures.law.2 c.requires.of.area_is
+    c.requires.of.inside) drawn
+
 pub returns-in-Ok-clause-unreleased : goal.returns-in-Ok-clause-unreleased
 returns-in-Ok-clause-unreleased g c = λ slot_rules.
     let d = c.args.driver.now in
@@ -29,7 +41,7 @@ returns-in-Ok-clause-unreleased g c = λ slot_rules.
     unreleased_now g.P.Port d e k.slot x.call x.serial
     (claims_of g.P.Port d e k.slots k.slot c.block.result x.call x.serial c.block.ensures x.ensures.settings
     x.ensures.later x.ensures.is x.ensures.law.0 x.ensures.law.1 x.ensures.law.2 c.requires.of.area_is
-    c.requires.of.inside) slot_rules
+    c.requires.of.inside) (drawn_ruled g.P.Port d slot_rules)
 
 pub returns-in-Ok-clause-goes_on : goal.returns-in-Ok-clause-goes_on
 returns-in-Ok-clause-goes_on g c =

@@ -8,6 +8,7 @@ use Rattle.slot_alloc.proofs.Polling.{goes_on_on, goes_on_polled, held_polled, l
 use Rattle.slot_alloc.proofs.Polling.{still_polled, waiting_polled, won_polled}
 use Rattle.slot_alloc.specs.Progresses.{IsLost, IsLostOn}
 use Rattle.slot_alloc.specs.declared.claiming.ClaimStage.{ClaimStage}
+use Rattle.slot_alloc.proofs.Drawn.{drawn_on}
 use Rattle.slot_alloc.proofs.poll.poll_claim.Goals as goal
 use Rattle.slot_alloc.proofs.NextSlots.{lost_held, polled_lost}
 
@@ -47,8 +48,27 @@ returns-in-Pending-clause-unreleased g c = λ slot_rules unreleased.
     (sym c.replace.ensures.value ∙ c.in-Asked.is ∙ ap (λ (k : Call _). ClaimStage.Asked k serial) (sym y.ensures.back))
     (record { same = x.same; later = x.later; one = x.one }) unreleased
 
+pub returns-in-Pending-clause-drawn : goal.returns-in-Pending-clause-drawn
+returns-in-Pending-clause-drawn g c = λ drawn unreleased.
+    let x = c.poll.ensures in
+    let y = c.in-Pending in
+    let serial = c.in-Asked.serial in
+    still_polled g.P.Port c.args.driver.now c.poll.new.self c.args.claiming y.call serial c.requires.of
+    (sym c.replace.ensures.value ∙ c.in-Asked.is ∙ ap (λ (k : Call _). ClaimStage.Asked k serial) (sym y.ensures.back))
+    (record { same = x.same; later = x.later; one = x.one }) unreleased
+
 pub returns-in-Later-clause-unreleased : goal.returns-in-Later-clause-unreleased
 returns-in-Later-clause-unreleased g c = λ slot_rules unreleased.
+    let x = c.poll.ensures in
+    let y = c.in-Later in
+    let serial = c.in-Asked.serial in
+    still_polled g.P.Port c.args.driver.now c.poll.new.self c.args.claiming y.call serial c.requires.of
+    (sym c.replace.ensures.value ∙ c.in-Asked.is
+    ∙ ap (λ (k : Call _). ClaimStage.Asked k serial) (sym y.ensures.back.0))
+    (record { same = x.same; later = x.later; one = x.one }) unreleased
+
+pub returns-in-Later-clause-drawn : goal.returns-in-Later-clause-drawn
+returns-in-Later-clause-drawn g c = λ drawn unreleased.
     let x = c.poll.ensures in
     let y = c.in-Later in
     let serial = c.in-Asked.serial in
@@ -175,6 +195,13 @@ returns-else-is_swapped-clause-goes_on g c =
     goes_on_on g.P.Port g.met.P.Port.goes_on c.args.driver.now c.poll.new.self c.next.new.driver
     (goes_on_polled g.P.Port c.args.driver.now c.poll.new.self (record { same = x.same; later = x.later; one = x.one }))
     c.next.ensures.goes_on
+
+pub returns-else-is_swapped-clause-drawn : goal.returns-else-is_swapped-clause-drawn
+returns-else-is_swapped-clause-drawn g c = λ drawn unreleased.
+    let x = c.poll.ensures in
+    c.next.ensures.drawn (drawn_on g.P.Port c.args.driver.now c.poll.new.self
+    (goes_on_polled g.P.Port c.args.driver.now c.poll.new.self (record { same = x.same; later = x.later; one = x.one }))
+    drawn)
 
 pub returns-else-is_swapped-clause-held : goal.returns-else-is_swapped-clause-held
 returns-else-is_swapped-clause-held g c =

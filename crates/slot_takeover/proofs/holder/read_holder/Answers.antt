@@ -6,6 +6,7 @@ use Rattle.driver_calls.specs.declared.request.CallData.{CallData}
 use Rattle.driver_cas.specs.Drivers.{area_of}
 use Rattle.driver_cas.specs.Tries.{IsTryBegun}
 use Rattle.slot_alloc.specs.Areas.{block_of}
+use Rattle.slot_takeover.proofs.Reading.{read_now}
 use Rattle.slot_takeover.proofs.holder.read_holder.Goals as goal
 
 pub returns-in_err-call-clause-is : goal.returns-in_err-call-clause-is
@@ -33,10 +34,14 @@ returns-clause-is g c =
 pub returns-clause-of : goal.returns-clause-of
 returns-clause-of g c =
     let d = c.args.driver.now in
+    let e = c.start_read.new.self in
     let x = c.in_ok-call.ensures in
+    let at : block_of (area_of e) c.args.i ≡ c.block.result =
+    ap (λ (r : Range). block_of r c.args.i) (x.same.slots ∙ c.requires.area) ∙ sym c.block.ensures in
     record {
       of = x.is.of;
       does = x.is.does;
       inside = subst (λ (r : Range). c.args.i < r.blocks) (sym x.same.slots)
           (subst (λ (r : Range). c.args.i < r.blocks) (sym c.requires.area) c.requires.slot);
+      reads = read_now g.P.Port d e (record { slot = c.args.i; call = c.in_ok-call.call }) c.block.result x.is at;
     }

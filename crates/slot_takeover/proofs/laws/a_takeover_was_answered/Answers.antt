@@ -20,9 +20,9 @@ returns c =
           later.view d.port.legal polled.2.1
           (subst (λ (log : List PortEvent). IsAlone log (view_of d.port))
           (ap (λ (b : Snapshot SharedPort). log_of (view_of b.value)) same.began) alone);
-      taken = λ alone same later of polled.
+      taken = λ alone same later polled.
           differs_on (before at) (view_of k.start.value) (view_of at.port) (view_of d.port) k.queue (number_of at k)
-          k.op later.view d.port.legal of.does polled.1
+          k.op later.view d.port.legal polled.0 polled.1.1
           (subst (λ (log : List PortEvent). IsAlone log (view_of d.port))
           (ap (λ (b : Snapshot SharedPort). log_of (view_of b.value)) same.began) alone);
     }

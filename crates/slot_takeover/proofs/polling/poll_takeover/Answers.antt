@@ -60,8 +60,11 @@ returns-else-is_swapped-clause-is g c =
     let y = c.in-Done in
     let differs = taking_differs g.P.Port c.args.driver.now e k y.reply c.requires.of
     (c.is_swapped.ensures.no_other c.if-is_swapped.false) (sym y.ensures.answer) in (
-      sym y.ensures.answer ∙ ap (λ (r : Reply). Some (Ok r)) differs,
-      subst (λ (r : Reply). SaysOfPort e k.call (Some (Ok r))) differs y.ensures.says,
+      c.requires.of.does,
+      (
+        sym y.ensures.answer ∙ ap (λ (r : Reply). Some (Ok r)) differs,
+        subst (λ (r : Reply). SaysOfPort e k.call (Some (Ok r))) differs y.ensures.says,
+      ),
     )
 
 pub returns-in-Failed-clause-is : goal.returns-in-Failed-clause-is

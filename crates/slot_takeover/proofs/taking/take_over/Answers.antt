@@ -1,9 +1,11 @@
-use Rattle.std.proofs.Common.{Err, Ok, ap, refl, subst, sym, ℕ, ◌<◌, ◌∙◌, ◌≡◌}
+use Rattle.std.proofs.Common.{Err, Ok, ap, arith, refl, subst, sym, ℕ, ◌<◌, ◌∙◌, ◌≡◌}
 use Rattle.std.proofs.lemmas.Result.{err_from_is_err_and}
 use Rattle.nvme_model.specs.declared.array.Range.{Range}
 use Rattle.driver_cas.specs.Drivers.{area_of}
 use Rattle.driver_cas.specs.TakeoverStarts.{IsTakeoverStart}
 use Rattle.slot_alloc.specs.Areas.{block_of}
+use Rattle.slot_alloc.proofs.Starting.{goes_on_same}
+use Rattle.slot_takeover.proofs.Going.{takeover_on}
 use Rattle.slot_takeover.proofs.Starting.{taking_now}
 use Rattle.slot_takeover.proofs.taking.take_over.Goals as goal
 
@@ -71,4 +73,33 @@ returns-clause-of g c =
       named = x.ensures.law.0;
       narrow = x.ensures.law.1;
       fits = x.ensures.law.2;
+    })
+
+pub returns-in_err-call-clause-goes_on : goal.returns-in_err-call-clause-goes_on
+returns-in_err-call-clause-goes_on g c =
+    let x = c.in_err-call.ensures in
+    goes_on_same g.P.Port c.args.driver.now c.start_takeover.new.self x.settings x.is.0 x.later x.is.1.0
+
+pub returns-clause-goes_on : goal.returns-clause-goes_on
+returns-clause-goes_on g c =
+    let d = c.args.driver.now in
+    let e = c.start_takeover.new.self in
+    let x = c.in_ok-call in
+    let host = c.host_of_name-dead_host.ensures.value in
+    let serial = c.serial_of_name-dead_serial.ensures.value in
+    takeover_on g.P.Port d e c.block.result c.args.dead x.call x.serial x.ensures.settings x.ensures.later
+    (subst (λ (s : ℕ). IsTakeoverStart d e c.block.result c.args.dead.host s (Ok (x.call, x.serial))) serial
+    (subst (λ (h : ℕ). IsTakeoverStart d e c.block.result h c.serial_of_name-dead_serial.result
+    (Ok (x.call, x.serial))) host x.ensures.is))
+    (record {
+      host = c.requires.named.0;
+      host_fits = subst (λ (h : ℕ). h < 4294967296) host c.fits.ensures.law.0;
+      serial = c.requires.named.1;
+      serial_fits = subst (λ (s : ℕ). s < 18446744073709551616) serial c.fits.ensures.law.1;
+    })
+    (record {
+      host = x.ensures.law.0;
+      host_fits = x.ensures.law.1;
+      serial = omega (arith, x.ensures.is.0);
+      serial_fits = x.ensures.law.2;
     })

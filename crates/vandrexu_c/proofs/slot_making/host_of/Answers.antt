@@ -1,4 +1,6 @@
 use Rattle.std.proofs.Common.{◌∙◌, false, sym}
+use Rattle.driver_cas.specs.contracts.shared_port.SharedPortPort.TheImpl.{ghosts}
+use Rattle.slot_alloc.proofs.Drawn.{drawn_fresh}
 use Rattle.vandrexu_c.proofs.Fresh.{fresh_rules, nothing_at}
 use Rattle.vandrexu_c.proofs.slot_making.host_of.Goals as goal
 
@@ -11,5 +13,6 @@ invariant_of-host c =
       count = c.requires.holds.0 ∙ sym (λ i. (c.new.ensures i).blocks);
       holds_are = nothing_at c.args.driver false c.args.holds.items c.requires.holds.1;
       call = tt;
+      drawn = drawn_fresh ghosts c.args.driver d.none;
       rules = λ f. fresh_rules c.args.driver d.none;
     }

@@ -10,6 +10,7 @@ use Rattle.slot_alloc.specs.Claims.{AreTaken, claims_in}
 use Rattle.slot_alloc.proofs.Asking.{claiming_now, claims_of, none_taken, unreleased_now}
 use Rattle.slot_alloc.proofs.Counting.{counts_claimed, counts_same}
 use Rattle.slot_alloc.proofs.Starting.{slot_rules_claimed, goes_on_claimed, goes_on_same}
+use Rattle.slot_alloc.proofs.Drawn.{drawn_ruled}
 use Rattle.slot_alloc.proofs.slots.Slots.begin.Goals as goal
 
 pub returns-in_err-call-clause-goes_on : goal.returns-in_err-call-clause-goes_on
@@ -37,6 +38,16 @@ returns-clause-slot_rules g c =
     x.ensures.settings x.ensures.later x.ensures.is x.ensures.law.0 x.ensures.law.1 x.ensures.law.2 c.requires.area
     c.requires.slot)
 
+pub returns-clause-drawn : goal.returns-clause-drawn
+returns-clause-drawn g c = λ drawn.
+    let d = c.args.driver.now in
+    let e = c.start_claim.new.self in
+    let x = c.in_ok-call in
+    unreleased_now g.P.Port d e c.args.slot x.call x.serial
+    (claims_of g.P.Port d e c.args.self.now c.args.slot c.block.result x.call x.serial c.block.ensures
+    x.ensures.settings x.ensures.later x.ensures.is x.ensures.law.0 x.ensures.law.1 x.ensures.law.2 c.requires.area
+    c.requires.slot) drawn
+
 pub returns-clause-unreleased : goal.returns-clause-unreleased
 returns-clause-unreleased g c = λ slot_rules.
     let d = c.args.driver.now in
@@ -45,7 +56,7 @@ returns-clause-unreleased g c = λ slot_rules.
     unreleased_now g.P.Port d e c.args.slot x.call x.serial
     (claims_of g.P.Port d e c.args.self.now c.args.slot c.block.result x.call x.serial c.block.ensures
     x.ensures.settings x.ensures.later x.ensures.is x.ensures.law.0 x.ensures.law.1 x.ensures.law.2 c.requires.area
-    c.requires.slot) slot_rules
+    c.requires.slot) (drawn_ruled g.P.Port d slot_rules)
 
 pub returns-clause-goes_on : goal.returns-clause-goes_on
 returns-clause-goes_on g c =

@@ -7,16 +7,14 @@ use Rattle.vandrexu_c.proofs.slot_host.SlotHost.begin_claim_any.Goals as goal
 
 pub keep_claim-requires : goal.keep_claim-requires
 keep_claim-requires c =
-    ap (λ (h : SlotState). h.under_way) c.self.view_is ∙ (any_open c.args.self.now c.requires).0
+    ap (λ (h : SlotState). h.under_way) c.self.view_is ∙ any_open c.args.self.now c.requires
 
 pub invariant_of-self : goal.invariant_of-self
 invariant_of-self c =
     let s = c.self.inside in
     let x = c.claim_any-begun.ensures in
-    let free = any_open c.args.self.now c.requires in
-    let none = ap (λ (h : SlotState). h.under_way) c.self.view_is ∙ free.0 in
-    let fresh = ap (λ (h : SlotState). h.took_over) c.self.view_is ∙ free.1 in
+    let none = ap (λ (h : SlotState). h.under_way) c.self.view_is ∙ any_open c.args.self.now c.requires in
     claim_kept s.driver c.claim_any-begun.new.driver s.number s.slots s.holds.items s.took_over c.keep_claim.result
     c.claim_any-begun.result c.keep_claim.new.under_way
-    (idle s.driver s.number s.slots s.holds.items s.under_way s.took_over c.self.invariant none) fresh x.goes_on
-    x.slot_rules x.of x.unreleased c.keep_claim.ensures
+    (idle s.driver s.number s.slots s.holds.items s.under_way s.took_over c.self.invariant none) x.goes_on
+    x.slot_rules x.of x.drawn c.keep_claim.ensures

@@ -15,5 +15,5 @@ invariant_of-self c =
     c.keep_takeover.new.under_way took) (sym c.has_begun-self-inside.ensures)
     (takeover_kept s.driver c.take_over-begun.new.driver s.number s.slots s.holds.items s.took_over c.args.slot
     c.keep_takeover.result c.args.dead c.take_over-begun.result c.keep_takeover.new.under_way
-    (idle s.driver s.number s.slots s.holds.items s.under_way s.took_over c.self.invariant none) x.settings x.later
+    (idle s.driver s.number s.slots s.holds.items s.under_way s.took_over c.self.invariant none) x.goes_on
     x.is x.of c.keep_takeover.ensures)

@@ -18,4 +18,4 @@ invariant_of-self c =
     c.keep_give_back.new.holds.items s.took_over c.args.slot c.keep_give_back.result c.args.held
     c.give_back-begun.result c.keep_give_back.new.under_way
     (idle s.driver s.number s.slots s.holds.items s.under_way s.took_over c.self.invariant none) nothing
-    c.requires.held.0 old held x.same x.later x.is x.of c.keep_give_back.ensures.told c.keep_give_back.ensures.holds
+    c.requires.held.0 old held x.goes_on x.is x.of c.keep_give_back.ensures.told c.keep_give_back.ensures.holds

@@ -15,5 +15,5 @@ invariant_of-self c =
     claim_polled s.driver c.poll_claim-progress.new.driver s.number s.slots s.holds.items
     c.end_claim.new.holds.items s.took_over c.end_claim.result.0 c.end_claim.result.1 c.end_claim.new.under_way
     c.poll_claim-progress.result
-    (idle s.driver s.number s.slots s.holds.items s.under_way s.took_over c.self.invariant none) of.0 x.goes_on
-    x.slot_rules x.of (x.held of.2) (x.unreleased (c.self.invariant.rules of.0) of.2) c.end_claim.ensures
+    (idle s.driver s.number s.slots s.holds.items s.under_way s.took_over c.self.invariant none) x.goes_on
+    x.slot_rules x.of (x.held of.1) (x.drawn c.self.invariant.drawn of.1) c.end_claim.ensures
