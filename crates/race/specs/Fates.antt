@@ -1,7 +1,21 @@
--- Which hosts of a race are dead.
-use Rattle.std.specs.Prelude.{Bool, List, None, Option, Some, false, slice_get, ℕ, ◌==◌, ◌-◌}
+-- Which hosts of a race die, and which are dead.
+use Rattle.std.specs.Prelude.{Bool, List, None, Option, Some, false, slice_get, ℕ, ◌*◌, ◌-◌, ◌==◌, ◌≤◌}
+use Rattle.driver_cas.specs.declared.fault.Fault.{Fault}
 use Rattle.race.specs.declared.drawing.Actor.{Actor}
 use Rattle.race.specs.declared.fate.Fate.{Fate}
+use Rattle.race_numbers.specs.declared.race.Race.{Race}
+
+-- A host that dies makes a turn before, and at most eight for each round of the race.
+abbrev pub IsFateIn : Race → Fate → Type 0
+IsFateIn r Fate.Lives = Unit {0}
+IsFateIn r (Fate.Dies n) = (1 ≤ n) × (n ≤ 8 * r.rounds)
+
+-- where this is why a call wasn't begun, or nothing was reaped, a survivor asks again: another caller had the lock, or
+-- a ring was full
+abbrev pub AsksAgain : Fault → Type 0
+AsksAgain Fault.Busy = Unit {0}
+AsksAgain Fault.RingFull = Unit {0}
+AsksAgain _ = ⊥
 
 -- the host makes no further turn
 abbrev pub is_dead : Fate → Bool

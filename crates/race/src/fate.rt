@@ -1,7 +1,7 @@
 //! Which hosts of a race die, and when.
 
-ghost use Rattle.std.specs.Prelude.{◌≡◌, ◌≤◌, ◌<◌, IfOk, not, slice_get, vec_len};
-ghost use Rattle.race.specs.Fates.{is_dead, is_dead_actor, is_dead_fate};
+ghost use Rattle.std.specs.Prelude.{◌≡◌, ◌≤◌, ◌<◌, All, IfOk, not, slice_get, vec_len};
+ghost use Rattle.race.specs.Fates.{IsFateIn, is_dead, is_dead_actor, is_dead_fate};
 ghost use Rattle.race.specs.Drawing.{IsActorIn};
 
 use crate::drawing::Actor;
@@ -24,6 +24,7 @@ const TURNS: u32 = 8;
 fn fate_of(race: &Race, dying: u16, hosts: u16, random: &mut RandomNumbers) -> Fate
     requires some { 1 ≤ hosts }
     ensures dies { dying ≡ 0 → result ≡ Fate.Lives }
+    ensures turns { IsFateIn race.now result }
 {
     if random.below(u32::from(hosts)) < u32::from(dying) {
         Fate::Dies(1 + random.below(TURNS * race.rounds))
@@ -44,6 +45,7 @@ pub(crate) fn fates_of(
     random: &mut RandomNumbers,
 ) -> Result<Vec<Fate>, NoMemory>
     ensures count { IfOk result (λ f. vec_len f ≡ race.now.hosts) }
+    ensures each { IfOk result (λ f. All (IsFateIn race.now) f.items) }
 {
     let mut dying = crash;
     let mut fates = Vec::with_capacity(alloc, usize::from(race.hosts))?;

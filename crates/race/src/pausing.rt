@@ -1,6 +1,7 @@
 //! What a survivor does while it waits.
 
-ghost use Rattle.std.specs.Prelude.{◌≡◌};
+ghost use Rattle.std.specs.Prelude.{◌≡◌, IfErr, OnOk};
+ghost use Rattle.race.specs.Fates.{AsksAgain};
 ghost use Rattle.driver_cas.specs.declared.shared_port.SharedPort.{SharedPort};
 ghost use Rattle.slot_alloc.specs.Claims.{IsReleasingOf};
 ghost use Rattle.slot_alloc.specs.declared.release.Releasing.{Releasing};
@@ -72,7 +73,10 @@ pub(crate) fn forgets<R: Wait>(rt: &R, system: &System<OpenGate>, fenced: &mut H
 /// # Errors
 ///
 /// `NoMemory` where it can't go on.
-pub(crate) fn asks_again(fault: Fault) -> Result<(), NoMemory> {
+pub(crate) fn asks_again(fault: Fault) -> Result<(), NoMemory>
+    ensures again { OnOk result (AsksAgain fault) }
+    ensures no_more { IfErr result (λ _. ¬ (AsksAgain fault)) }
+{
     match fault {
         Fault::Busy | Fault::RingFull => Ok(()),
         Fault::Length

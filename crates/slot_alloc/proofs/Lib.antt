@@ -9,4 +9,4 @@ pub mod Staying
 pub mod Taking
 pub mod Untouched
 pub mod Counting
-mod Drawn
+pub mod Drawn

@@ -99,16 +99,16 @@ fn keep_claim(under_way: &mut UnderWay, begun: Result<Claiming<SharedPort<'stati
     }
 }
 
-// Whether a host has begun a takeover, by now.
-fn has_begun(
-    took_over: Snapshot<bool>,
+// A takeover that is begun is borne in mind.
+fn bear_in_mind(
+    took_over: &mut Snapshot<bool>,
     begun: &Result<TakingOver<SharedPort<'static>>, Fault>,
-) -> Snapshot<bool>
-    ensures { result.value ≡ took_over_by took_over.value begun.now }
+)
+    ensures { took_over.new.value ≡ took_over_by took_over.old.value begun.now }
 {
     match begun {
-        Ok(_) => Snapshot::of(&true),
-        Err(_) => took_over,
+        Ok(_) => *took_over = Snapshot::of(&true),
+        Err(_) => {}
     }
 }
 
@@ -338,7 +338,7 @@ impl SlotHost {
         ensures { TakeoverBegins self.old self.new slot dead result }
     {
         let begun = take_over(&self.slots, &mut self.driver, slot, dead);
-        self.took_over = has_begun(self.took_over, &begun);
+        bear_in_mind(&mut self.took_over, &begun);
         keep_takeover(&mut self.under_way, begun)
     }
 
