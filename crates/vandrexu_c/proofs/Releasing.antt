@@ -30,6 +30,7 @@ emptied_kept d number slots holds later u took i k e =
       holds_are = subst (λ (hs : List Hold). (j : ℕ) (w : Hold) → slice_get hs j ≡ Some w → IsHoldAt d took j w) (sym e)
           (element_of (IsHoldAt d took) holds i Hold.Nothing (λ j w apart there. k.holds_are j w there) tt);
       call = k.call;
+      drawn = k.drawn;
       rules = k.rules;
     }
 

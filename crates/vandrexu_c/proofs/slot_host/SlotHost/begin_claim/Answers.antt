@@ -15,7 +15,7 @@ invariant_of-self c =
     let x = c.claim-begun.ensures in
     let free = claim_open c.args.self.now c.args.slot c.requires in
     let none = ap (λ (h : SlotState). h.under_way) c.self.view_is ∙ free.0 in
-    claim_kept s.driver c.claim-begun.new.driver s.number s.slots s.holds.items s.took_over c.keep_claim.result
+    claim_kept s.driver c.claim-begun.new.driver s.number s.slots s.holds.items s.took_over.value c.keep_claim.result
     c.claim-begun.result c.keep_claim.new.under_way
-    (idle s.driver s.number s.slots s.holds.items s.under_way s.took_over c.self.invariant none) x.goes_on
+    (idle s.driver s.number s.slots s.holds.items s.under_way s.took_over.value c.self.invariant none) x.goes_on
     x.slot_rules x.of x.drawn c.keep_claim.ensures

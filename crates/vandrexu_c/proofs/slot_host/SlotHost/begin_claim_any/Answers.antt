@@ -14,7 +14,7 @@ invariant_of-self c =
     let s = c.self.inside in
     let x = c.claim_any-begun.ensures in
     let none = ap (λ (h : SlotState). h.under_way) c.self.view_is ∙ any_open c.args.self.now c.requires in
-    claim_kept s.driver c.claim_any-begun.new.driver s.number s.slots s.holds.items s.took_over c.keep_claim.result
-    c.claim_any-begun.result c.keep_claim.new.under_way
-    (idle s.driver s.number s.slots s.holds.items s.under_way s.took_over c.self.invariant none) x.goes_on
+    claim_kept s.driver c.claim_any-begun.new.driver s.number s.slots s.holds.items s.took_over.value
+    c.keep_claim.result c.claim_any-begun.result c.keep_claim.new.under_way
+    (idle s.driver s.number s.slots s.holds.items s.under_way s.took_over.value c.self.invariant none) x.goes_on
     x.slot_rules x.of x.drawn c.keep_claim.ensures

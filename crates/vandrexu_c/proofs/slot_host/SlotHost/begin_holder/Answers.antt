@@ -16,7 +16,7 @@ invariant_of-self c =
     let x = c.read_holder-begun.ensures in
     let none = ap (λ (h : SlotState). h.under_way) c.self.view_is
     ∙ (slot_open c.args.self.now.under_way c.args.self.now.holds c.args.slot c.requires).0 in
-    holder_kept s.driver c.read_holder-begun.new.driver s.number s.slots s.holds.items s.took_over c.args.slot
+    holder_kept s.driver c.read_holder-begun.new.driver s.number s.slots s.holds.items s.took_over.value c.args.slot
     c.keep_holder.result c.read_holder-begun.result c.keep_holder.new.under_way
-    (idle s.driver s.number s.slots s.holds.items s.under_way s.took_over c.self.invariant none) x.same x.later x.is
-    x.of c.keep_holder.ensures
+    (idle s.driver s.number s.slots s.holds.items s.under_way s.took_over.value c.self.invariant none) x.same x.later
+    x.is x.of c.keep_holder.ensures

@@ -21,8 +21,8 @@ release_claim-requires-clause-held c =
 pub invariant_of-self-in-TakenOver : goal.invariant_of-self-in-TakenOver
 invariant_of-self-in-TakenOver c =
     let s = c.self.inside in
-    emptied_kept s.driver s.number s.slots s.holds.items c.put_at.new.holds.items s.under_way s.took_over c.args.slot
-    c.self.invariant c.in-TakenOver.ensures.now
+    emptied_kept s.driver s.number s.slots s.holds.items c.put_at.new.holds.items s.under_way s.took_over.value
+    c.args.slot c.self.invariant c.in-TakenOver.ensures.now
 
 pub give_back-requires-clause-idle : goal.give_back-requires-clause-idle
 give_back-requires-clause-idle c =
@@ -38,7 +38,7 @@ give_back-requires-clause-idle c =
 pub give_back-requires-clause-held : goal.give_back-requires-clause-held
 give_back-requires-clause-held c =
     let d = c.self.inside.driver in
-    subst (λ (b : HeldSlot). (slot_held b ≡ c.args.slot) × (c.self.inside.took_over ≡ true) × HoldsTaken d b)
+    subst (λ (b : HeldSlot). (slot_held b ≡ c.args.slot) × (c.self.inside.took_over.value ≡ true) × HoldsTaken d b)
     (sym c.into_held.ensures)
     (c.self.invariant.holds_are c.args.slot (Hold.TakenOver c.in-TakenOver.kept) c.in-TakenOver.ensures.was)
 
@@ -46,7 +46,7 @@ pub returns-in-Claimed-clause-claimed : goal.returns-in-Claimed-clause-claimed
 returns-in-Claimed-clause-claimed c =
     let s = c.self.inside in
     rw (sym c.self.view_is) (λ k there. release_begins s.driver s.slots s.holds.items c.put_at.new.holds.items
-    s.under_way s.took_over c.release_claim.new.self c.args.slot c.release_claim.result k c.in-Claimed.kept
+    s.under_way s.took_over.value c.release_claim.new.self c.args.slot c.release_claim.result k c.in-Claimed.kept
     c.into_claim.result c.in-Claimed.ensures.was c.in-Claimed.ensures.now c.into_claim.ensures c.release_claim.ensures
     there)
 
@@ -54,6 +54,6 @@ pub returns-in-TakenOver-clause-taken : goal.returns-in-TakenOver-clause-taken
 returns-in-TakenOver-clause-taken c =
     let s = c.self.inside in
     rw (sym c.self.view_is) (λ k there. give_back_begins s.driver s.slots s.holds.items c.put_at.new.holds.items
-    s.under_way s.took_over c.give_back.new.self c.args.slot c.give_back.result k c.in-TakenOver.kept
+    s.under_way s.took_over.value c.give_back.new.self c.args.slot c.give_back.result k c.in-TakenOver.kept
     c.into_held.result c.in-TakenOver.ensures.was c.in-TakenOver.ensures.now c.into_held.ensures c.give_back.ensures
     there)

@@ -13,7 +13,7 @@ invariant_of-self c =
     ∙ (takeover_open c.args.self.now c.args.slot c.args.dead c.requires).0 in
     subst (λ (took : Bool). KeepsSlots c.take_over-begun.new.driver s.number s.slots s.holds.items
     c.keep_takeover.new.under_way took) (sym c.bear_in_mind.ensures)
-    (takeover_kept s.driver c.take_over-begun.new.driver s.number s.slots s.holds.items s.took_over c.args.slot
+    (takeover_kept s.driver c.take_over-begun.new.driver s.number s.slots s.holds.items s.took_over.value c.args.slot
     c.keep_takeover.result c.args.dead c.take_over-begun.result c.keep_takeover.new.under_way
-    (idle s.driver s.number s.slots s.holds.items s.under_way s.took_over c.self.invariant none) x.goes_on
+    (idle s.driver s.number s.slots s.holds.items s.under_way s.took_over.value c.self.invariant none) x.goes_on
     x.is x.of c.keep_takeover.ensures)

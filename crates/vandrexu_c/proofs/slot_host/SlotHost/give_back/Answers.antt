@@ -15,7 +15,7 @@ invariant_of-self c =
     let old = ap (λ (h : SlotState). h.took_over) c.self.view_is ∙ c.requires.held.1 in
     let held = subst (λ (h : SlotState). HoldsTaken h.driver c.args.held) (sym c.self.view_is) c.requires.held.2 in
     give_back_kept s.driver c.give_back-begun.new.driver s.number s.slots s.holds.items
-    c.keep_give_back.new.holds.items s.took_over c.args.slot c.keep_give_back.result c.args.held
+    c.keep_give_back.new.holds.items s.took_over.value c.args.slot c.keep_give_back.result c.args.held
     c.give_back-begun.result c.keep_give_back.new.under_way
-    (idle s.driver s.number s.slots s.holds.items s.under_way s.took_over c.self.invariant none) nothing
+    (idle s.driver s.number s.slots s.holds.items s.under_way s.took_over.value c.self.invariant none) nothing
     c.requires.held.0 old held x.goes_on x.is x.of c.keep_give_back.ensures.told c.keep_give_back.ensures.holds

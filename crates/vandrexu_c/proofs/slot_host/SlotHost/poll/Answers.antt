@@ -13,7 +13,7 @@ returns-in-Takeover c =
       slots = s.slots;
       holds = s.holds.items;
       under_way = s.under_way;
-      took_over = s.took_over;
+      took_over = s.took_over.value;
     } in
     let told : CallPolls h c.poll_takeover.new.self s.under_way c.poll_takeover.result.0 c.poll_takeover.result.1 =
     subst (λ (u : UnderWay). CallPolls h c.poll_takeover.new.self u c.poll_takeover.result.0 c.poll_takeover.result.1)
@@ -38,7 +38,7 @@ returns-in-Release c =
       slots = s.slots;
       holds = s.holds.items;
       under_way = s.under_way;
-      took_over = s.took_over;
+      took_over = s.took_over.value;
     } in
     let told : CallPolls h c.poll_release.new.self s.under_way c.poll_release.result.0 c.poll_release.result.1 =
     subst (λ (u : UnderWay). CallPolls h c.poll_release.new.self u c.poll_release.result.0 c.poll_release.result.1)

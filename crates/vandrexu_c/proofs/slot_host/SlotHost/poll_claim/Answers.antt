@@ -13,7 +13,7 @@ invariant_of-self c =
     let of = subst (λ (h : SlotState). IsUnderWay h.driver h.took_over (calls.Claim c.args.claiming))
     (sym c.self.view_is) c.requires.of in
     claim_polled s.driver c.poll_claim-progress.new.driver s.number s.slots s.holds.items
-    c.end_claim.new.holds.items s.took_over c.end_claim.result.0 c.end_claim.result.1 c.end_claim.new.under_way
+    c.end_claim.new.holds.items s.took_over.value c.end_claim.result.0 c.end_claim.result.1 c.end_claim.new.under_way
     c.poll_claim-progress.result
-    (idle s.driver s.number s.slots s.holds.items s.under_way s.took_over c.self.invariant none) x.goes_on
+    (idle s.driver s.number s.slots s.holds.items s.under_way s.took_over.value c.self.invariant none) x.goes_on
     x.slot_rules x.of (x.held of.1) (x.drawn c.self.invariant.drawn of.1) c.end_claim.ensures

@@ -9,9 +9,10 @@ invariant_of-self c =
     let s = c.self.inside in
     let x = c.poll_holder-polled.ensures in
     let none = ap (λ (h : SlotState). h.under_way) c.self.view_is ∙ c.requires.idle in
-    holder_polled s.driver c.poll_holder-polled.new.driver s.number s.slots s.holds.items s.took_over
+    holder_polled s.driver c.poll_holder-polled.new.driver s.number s.slots s.holds.items s.took_over.value
     c.end_holder.result.0 c.end_holder.result.1 c.end_holder.new.under_way c.args.reading c.poll_holder-polled.result
-    (idle s.driver s.number s.slots s.holds.items s.under_way s.took_over c.self.invariant none) x.quiet x.later x.is
+    (idle s.driver s.number s.slots s.holds.items s.under_way s.took_over.value c.self.invariant none) x.quiet
+    x.later x.is
     (c.end_holder.ensures s.holds.items)
 
 pub returns : goal.returns

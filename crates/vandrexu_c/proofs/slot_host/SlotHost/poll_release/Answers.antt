@@ -9,10 +9,10 @@ invariant_of-self c =
     let s = c.self.inside in
     let x = c.poll_release-released.ensures in
     let none = ap (λ (h : SlotState). h.under_way) c.self.view_is ∙ c.requires.idle in
-    release_polled s.driver c.poll_release-released.new.driver s.number s.slots s.holds.items s.took_over
+    release_polled s.driver c.poll_release-released.new.driver s.number s.slots s.holds.items s.took_over.value
     c.end_release.result.0 c.end_release.result.1 c.end_release.new.under_way c.args.releasing
     c.poll_release-released.result
-    (idle s.driver s.number s.slots s.holds.items s.under_way s.took_over c.self.invariant none) x.quiet
+    (idle s.driver s.number s.slots s.holds.items s.under_way s.took_over.value c.self.invariant none) x.quiet
     x.goes_on.later x.is
     (c.end_release.ensures s.holds.items)
 

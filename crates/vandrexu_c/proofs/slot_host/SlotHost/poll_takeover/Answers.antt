@@ -13,10 +13,10 @@ invariant_of-self c =
     let of = subst (λ (h : SlotState). IsUnderWay h.driver h.took_over (calls.Takeover c.args.taking))
     (sym c.self.view_is) c.requires.of in
     takeover_polled s.driver c.poll_takeover-progress.new.driver s.number s.slots s.holds.items
-    c.end_takeover.new.holds.items s.took_over c.end_takeover.result.0 c.end_takeover.result.1
+    c.end_takeover.new.holds.items s.took_over.value c.end_takeover.result.0 c.end_takeover.result.1
     c.end_takeover.new.under_way c.args.taking c.poll_takeover-progress.result
-    (idle s.driver s.number s.slots s.holds.items s.under_way s.took_over c.self.invariant none) of.0 x.quiet x.later
-    x.is c.end_takeover.ensures
+    (idle s.driver s.number s.slots s.holds.items s.under_way s.took_over.value c.self.invariant none) of.0 x.quiet
+    x.later x.is c.end_takeover.ensures
 
 pub returns : goal.returns
 returns c =
