@@ -1,0 +1,12 @@
+//! What holds of orders, each as the contract of a function that does nothing.
+
+ghost use Rattle.std.specs.Prelude.{◌≡◌, List, true, ℕ};
+ghost use Rattle.slice_orders.specs.Layers.{has_no_order};
+ghost use Rattle.slice_orders.specs.Orders.{IsOrder};
+ghost use Rattle.slice_orders.specs.Pieces.{Slice};
+
+/// Where layers end before one is whole, no list is an order of the slice's pieces.
+pub fn no_list_is_an_order()
+    ensures { (blank : List ℕ) (slice : Slice) (order : List ℕ) →
+        has_no_order blank slice ≡ true → IsOrder blank slice order → ⊥ }
+{}

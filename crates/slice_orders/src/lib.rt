@@ -1,0 +1,7 @@
+//! Whether a few effects, of which each has to find what earlier ones left, can have had an order: for whoever refutes
+//! a trace.
+#![tactic(auto)]
+
+mod laws;
+
+pub use laws::no_list_is_an_order;
