@@ -6,9 +6,10 @@ use Rattle.std.specs.Str.{bytes_eq}
 use Rattle.slice_orders.specs.Orders.{behind_by, has, held_by, is_sure, is_whole, may_follow}
 use Rattle.slice_orders.specs.Pieces.{Held, Piece, Slice}
 
--- Each sure piece that comes before piece n is among these; else none behind n could be whole.
+-- Each sure piece that comes before piece n is among these; else no list with n behind them could be whole.
 abbrev pub lacks_none : Slice → List ℕ → ℕ → Bool
-lacks_none slice order n = list_all (λ m. not (is_sure slice m) || has order m) (behind_by (slice_get slice n))
+lacks_none slice order n =
+    list_all (λ m. not (is_sure slice m) || has (n ∷ order) m) (behind_by (slice_get slice n))
 
 -- Piece n may stand next, and lets each sure piece have its place.
 abbrev pub is_next : List ℕ → Slice → List ℕ → ℕ → Bool

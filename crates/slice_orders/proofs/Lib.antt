@@ -1,0 +1,5 @@
+pub mod Members
+pub mod States
+pub mod Reached
+pub mod Steps
+pub mod ExampleOrders
