@@ -34,7 +34,7 @@ comes_before slice m n = has (behind_by (slice_get slice n)) m
 
 -- ---- what blocks hold
 
--- What block b holds where these blocks were written, and held this before.
+-- What block b holds where these blocks were written, and it held this before.
 abbrev pub written : List Held → ℕ → List ℕ → List ℕ
 written [] b before = before
 written (h ∷ hs) b before = if h.0 == b then h.1 else written hs b before

@@ -2,6 +2,9 @@
 //! a trace.
 #![tactic(auto)]
 
+mod following;
 mod laws;
+mod piece;
 
 pub use laws::no_list_is_an_order;
+pub use piece::{HeldBlock, HeldBlocks, Piece};
