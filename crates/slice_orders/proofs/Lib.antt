@@ -1,5 +1,6 @@
 pub mod Members
-pub mod States
+pub mod SameState
 pub mod Reached
 pub mod Steps
+pub mod Loops
 pub mod ExampleOrders

@@ -5,7 +5,7 @@ use Rattle.std.specs.List.{list_any, range_with_len}
 use Rattle.slice_orders.specs.Layers.{is_next, is_same, layer_from, next_layer, with_nexts, with_order}
 use Rattle.slice_orders.specs.Pieces.{Slice}
 use Rattle.slice_orders.proofs.Members.{In, any_in, in_last, in_left}
-use Rattle.slice_orders.proofs.States.{Same, next_same, same_from, same_more, same_self, same_trans}
+use Rattle.slice_orders.proofs.SameState.{Same, next_same, same_from, same_more, same_self, same_trans}
 
 -- one of these leads to its state
 abbrev pub Reached : List ℕ → Slice → List (List ℕ) → List ℕ → Type 0

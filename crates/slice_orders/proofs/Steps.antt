@@ -9,7 +9,7 @@ use Rattle.slice_orders.specs.Orders.{may_follow, sure_by}
 use Rattle.slice_orders.specs.Pieces.{Piece, Slice}
 use Rattle.slice_orders.proofs.Members.{In, all_from, all_in, any_from, has_in, in_has, in_range}
 use Rattle.slice_orders.proofs.Reached.{Reached, next_reached}
-use Rattle.slice_orders.proofs.States.{same_self, whole_same}
+use Rattle.slice_orders.proofs.SameState.{same_self, whole_same}
 
 -- ---- numbers of pieces
 
@@ -125,4 +125,4 @@ pub no_order : (blank : List ℕ) (slice : Slice) (order : List ℕ) → has_no_
 no_order blank slice order e h =
     let way = from_none blank slice order [] order
     (are_next blank slice order h.0 (whole_complete slice order h.1)) refl in
-    none_left blank slice (suc (length slice)) ([] ∷ []) [] way.0 order e ([], inl refl, same_self blank slice []) way.1 h.1
+    none_left blank slice (length slice) ([] ∷ []) [] way.0 order e ([], inl refl, same_self blank slice []) way.1 h.1

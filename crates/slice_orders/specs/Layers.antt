@@ -64,6 +64,7 @@ ends blank slice zero (order ∷ layer) = false
 ends blank slice (suc steps) (order ∷ layer) =
     not (list_any (is_whole slice) (order ∷ layer)) && ends blank slice steps (next_layer blank slice (order ∷ layer))
 
--- No order of the slice's pieces is possible: layers of states, from that behind none on, end before one is whole.
+-- No order of the slice's pieces is possible: layers of states, from that behind none on, end before one is whole. There
+-- are at most as many as pieces.
 abbrev pub has_no_order : List ℕ → Slice → Bool
-has_no_order blank slice = ends blank slice (suc (length slice)) ([] ∷ [])
+has_no_order blank slice = ends blank slice (length slice) ([] ∷ [])

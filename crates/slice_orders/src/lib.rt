@@ -4,7 +4,10 @@
 
 mod following;
 mod laws;
+mod layers;
 mod piece;
+mod states;
 
 pub use laws::no_list_is_an_order;
+pub use layers::has_no_order;
 pub use piece::{HeldBlock, HeldBlocks, Piece};
