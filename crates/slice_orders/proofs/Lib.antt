@@ -3,4 +3,7 @@ pub mod SameState
 pub mod Reached
 pub mod Steps
 pub mod Loops
+pub mod Short
+pub mod Found
+pub mod Building
 pub mod ExampleOrders

@@ -13,7 +13,7 @@ use Rattle.slice_orders.proofs.SameState.{same_self, whole_same}
 
 -- ---- numbers of pieces
 
-there : (slice : Slice) (n : ℕ) (p : Piece) → slice_get slice n ≡ Some p → n < length slice
+pub there : (slice : Slice) (n : ℕ) (p : Piece) → slice_get slice n ≡ Some p → n < length slice
 there [] n p e = absurd (let h : None ≡ Some p = e in cc)
 there (q ∷ slice) zero p e = omega arith
 there (q ∷ slice) (suc n) p e = let l : n < length slice = there slice n p e in omega arith

@@ -8,6 +8,6 @@ mod layers;
 mod piece;
 mod states;
 
-pub use laws::no_list_is_an_order;
+pub use laws::{else_some_list_is_an_order, no_list_is_an_order};
 pub use layers::has_no_order;
 pub use piece::{HeldBlock, HeldBlocks, Piece};
