@@ -39,7 +39,7 @@ fn written<'a>(blocks: &'a [HeldBlock], block: u64) -> Option<&'a [u8]>
         (λ left. (before : List ℕ) → written blocks.now block before ≡ left.now) }
 {
     for held in blocks {
-        if held.block() == block {
+        if held.number() == block {
             return Some(held.data());
         }
     }
@@ -77,7 +77,7 @@ pub(crate) fn held_by<'a>(
 fn is_held(blank: &[u8], slice: &[Piece], order: &[usize], held: &HeldBlock) -> bool
     ensures { result ≡ is_held (held_by blank.now slice.now order.now) held.now }
 {
-    held_by(blank, slice, order, held.block()) == held.data()
+    held_by(blank, slice, order, held.number()) == held.data()
 }
 
 fn differs(blank: &[u8], slice: &[Piece], order: &[usize], blocks: &[HeldBlock]) -> bool

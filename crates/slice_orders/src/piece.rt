@@ -7,7 +7,7 @@ use std::marker::Model;
 /// A block that is looked at, and what it holds.
 #[derive(Drop)]
 pub struct HeldBlock {
-    block: u64,
+    number: u64,
     data: Vec<u8>,
 }
 
@@ -16,20 +16,23 @@ impl Model for HeldBlock {
 
     ghost Value = { Held };
 
-    ghost view = { λ h. (h.block, h.data.items) };
+    ghost view = { λ h. (h.number, h.data.items) };
 }
 
 impl HeldBlock {
-    pub fn new(block: u64, bytes: Vec<u8>) -> HeldBlock
-        ensures { result ≡ (block, bytes.items) }
+    pub fn new(number: u64, bytes: Vec<u8>) -> HeldBlock
+        ensures { result ≡ (number, bytes.items) }
     {
-        HeldBlock { block, data: bytes }
+        HeldBlock {
+            number,
+            data: bytes,
+        }
     }
 
-    pub fn block(&self) -> u64
+    pub fn number(&self) -> u64
         ensures { result ≡ self.now.0 }
     {
-        self.block
+        self.number
     }
 
     pub fn data(&self) -> &[u8]

@@ -23,7 +23,7 @@ fn same_made(a: &[usize], b: &[usize]) -> bool
 fn same_at(blank: &[u8], slice: &[Piece], a: &[usize], b: &[usize], held: &HeldBlock) -> bool
     ensures { result ≡ same_at blank.now slice.now a.now b.now held.now }
 {
-    held_by(blank, slice, a, held.block()) == held_by(blank, slice, b, held.block())
+    held_by(blank, slice, a, held.number()) == held_by(blank, slice, b, held.number())
 }
 
 fn same_at_all(
