@@ -1,0 +1,10 @@
+//! What is said to refute a trace, and its text: for whoever makes, checks or hands on a refutation.
+#![tactic(auto)]
+
+mod fault;
+mod reading;
+mod refutation;
+
+pub use crate::fault::RefutationFault;
+pub use crate::reading::read_refutation;
+pub use crate::refutation::Refutation;
