@@ -1,0 +1,4 @@
+//! What a trace tells of each history that explains it, and which traces no history explains.
+#![tactic(auto)]
+
+pub mod line_laws;

@@ -1,0 +1,32 @@
+//! What the lines of a trace tell of each legal history that shows it, and what their newest line can't be.
+
+ghost use Rattle.std.specs.Prelude.{◌≡◌, ◌++◌, ℕ, List, None, Some, true};
+ghost use Rattle.nvme_model.specs.Completions.{reaped_count};
+ghost use Rattle.nvme_model.specs.History.{Past};
+ghost use Rattle.nvme_model.specs.Legal.{IsLegal};
+ghost use Rattle.nvme_model.specs.Queues.{published_entries};
+ghost use Rattle.nvme_model.specs.declared.config.ConfigNumbers.{ConfigNumbers};
+ghost use Rattle.nvme_model.specs.declared.entry.PostLine.{PostLine};
+ghost use Rattle.host_laws.specs.Calls.{IsEntryWaiting, reaped_post};
+ghost use Rattle.trace.specs.Observed.{observed};
+ghost use Rattle.trace.specs.declared.seen.ReapedLine.{ReapedLine};
+ghost use Rattle.trace.specs.declared.seen.Seen.{Seen};
+ghost use Rattle.refutation_laws.specs.Lines.{answer_in, is_tidy, published_in, reaped_in, waiting_in};
+
+/// What hosts saw of a legal history tells which entries are published and how many completions are reaped. Where no
+/// CID is published again while it waits, it tells also which entries wait, and by which bytes and data each other one
+/// was answered.
+pub fn a_trace_tells_its_entries()
+    ensures published { (c : ConfigNumbers) (past : Past) (q : ℕ) →
+        published_entries past q ≡ published_in (observed c past) q }
+    ensures reaped { (c : ConfigNumbers) (past : Past) (n : ℕ) → reaped_count past n ≡ reaped_in (observed c past) n }
+    ensures begins { (more trace : List Seen) → is_tidy (more ++ trace) ≡ true → is_tidy trace ≡ true }
+    ensures waits { (c : ConfigNumbers) (past : Past) (q cid j : ℕ) → IsLegal c past →
+        is_tidy (observed c past) ≡ true → IsEntryWaiting c past q cid j →
+        waiting_in (observed c past) q cid ≡ Some j }
+    ensures answered { (c : ConfigNumbers) (past : Past) (q j : ℕ) (r : ReapedLine) → IsLegal c past →
+        is_tidy (observed c past) ≡ true → answer_in (observed c past) q j ≡ Some r →
+        (p : PostLine) × (reaped_post c past q j ≡ Some p) × (p.cqe ≡ r.cqe) × (p.payload ≡ r.payload) }
+    ensures unanswered { (c : ConfigNumbers) (past : Past) (q j : ℕ) → IsLegal c past →
+        is_tidy (observed c past) ≡ true → answer_in (observed c past) q j ≡ None → reaped_post c past q j ≡ None }
+{}
