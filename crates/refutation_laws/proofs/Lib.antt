@@ -1,1 +1,4 @@
 pub mod Lines
+pub mod LastLine
+pub mod LineRules
+pub mod ExampleLines

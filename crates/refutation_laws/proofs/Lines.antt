@@ -3,7 +3,7 @@ use Rattle.std.proofs.Common.{◌≡◌, ℕ, zero, suc, ◌+◌, ◌<◌, Bool,
 use Rattle.std.proofs.Common.{refl, sym, ap, ap₂, ◌∙◌, subst, Option, Some, None, inl, inr, arith, eq-eqb, eqb, eqb-true}
 use Rattle.std.proofs.Common.{ltb-true, nat_lt, slice_get, is_none}
 use Rattle.std.proofs.lemmas.Bool.{and_parts, and_from, cases_Bool, cond-true, cond-false}
-use Rattle.nvme_model.specs.Completions.{posted_completions, reaped_count}
+use Rattle.nvme_model.specs.Completions.{reaped_count}
 use Rattle.nvme_model.specs.EntryBytes.{cqe_fields}
 use Rattle.nvme_model.specs.History.{Past}
 use Rattle.nvme_model.specs.Legal.{IsLegal}
@@ -15,7 +15,7 @@ use Rattle.nvme_model.specs.declared.entry.PublishLine.{PublishLine}
 use Rattle.nvme_model.specs.declared.entry.ReapLine.{ReapLine}
 use Rattle.nvme_model.specs.declared.submission.Submission.{Submission}
 use Rattle.nvme_model.proofs.Rules.{follows}
-use Rattle.host_laws.specs.Book.{Book, cid_of, with_entry, without_entry}
+use Rattle.host_laws.specs.Book.{Book, cid_of, with_entry}
 use Rattle.host_laws.specs.Calls.{IsEntryWaiting, ReapAnswers, reaped_post}
 use Rattle.host_laws.proofs.Elements.{get_cases, same_some}
 use Rattle.host_laws.proofs.Reaps.{none_if, reap_answers, reaped_later}

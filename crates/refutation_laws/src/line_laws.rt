@@ -1,6 +1,6 @@
 //! What the lines of a trace tell of each legal history that shows it, and what their newest line can't be.
 
-ghost use Rattle.std.specs.Prelude.{◌≡◌, ◌++◌, ℕ, List, None, Some, true};
+ghost use Rattle.std.specs.Prelude.{◌≡◌, ◌++◌, ◌∷◌, ℕ, List, None, Some, false, true};
 ghost use Rattle.nvme_model.specs.Completions.{reaped_count};
 ghost use Rattle.nvme_model.specs.History.{Past};
 ghost use Rattle.nvme_model.specs.Legal.{IsLegal};
@@ -8,9 +8,11 @@ ghost use Rattle.nvme_model.specs.Queues.{published_entries};
 ghost use Rattle.nvme_model.specs.declared.config.ConfigNumbers.{ConfigNumbers};
 ghost use Rattle.nvme_model.specs.declared.entry.PostLine.{PostLine};
 ghost use Rattle.host_laws.specs.Calls.{IsEntryWaiting, reaped_post};
-ghost use Rattle.trace.specs.Observed.{observed};
+ghost use Rattle.trace.specs.Observed.{Explains, observed};
+ghost use Rattle.trace.specs.Options.{no_options};
 ghost use Rattle.trace.specs.declared.seen.ReapedLine.{ReapedLine};
 ghost use Rattle.trace.specs.declared.seen.Seen.{Seen};
+ghost use Rattle.refutation_laws.specs.LineRules.{sets_unused_bits};
 ghost use Rattle.refutation_laws.specs.Lines.{answer_in, is_tidy, published_in, reaped_in, waiting_in};
 
 /// What hosts saw of a legal history tells which entries are published and how many completions are reaped. Where no
@@ -29,4 +31,12 @@ pub fn a_trace_tells_its_entries()
         (p : PostLine) × (reaped_post c past q j ≡ Some p) × (p.cqe ≡ r.cqe) × (p.payload ≡ r.payload) }
     ensures unanswered { (c : ConfigNumbers) (past : Past) (q j : ℕ) → IsLegal c past →
         is_tidy (observed c past) ≡ true → answer_in (observed c past) q j ≡ None → reaped_post c past q j ≡ None }
+{}
+
+// ---- the newest line of a trace
+
+/// In no history that explains a trace does the newest line's completion set a bit that this profile leaves zero.
+pub fn no_completion_sets_unused_bits()
+    ensures { (c : ConfigNumbers) (past : Past) (r : ReapedLine) (trace : List Seen) →
+        Explains no_options c past (Seen.Reaped r ∷ trace) → sets_unused_bits r ≡ false }
 {}

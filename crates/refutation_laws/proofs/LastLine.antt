@@ -1,0 +1,73 @@
+-- The newest line of a trace is the newest Publish or Reap of each history that explains it.
+use Rattle.std.proofs.Common.{◌≡◌, List, [], ◌∷◌, ◌∙◌, ap, ap₂, subst, sym}
+use Rattle.nvme_model.specs.History.{Past}
+use Rattle.nvme_model.specs.Legal.{IsLegal}
+use Rattle.nvme_model.specs.declared.config.ConfigNumbers.{ConfigNumbers}
+use Rattle.nvme_model.specs.declared.entry.Entry.{Entry}
+use Rattle.nvme_model.specs.declared.entry.PublishLine.{PublishLine}
+use Rattle.nvme_model.specs.declared.entry.ReapLine.{ReapLine}
+use Rattle.nvme_model.proofs.Rules.{follows}
+use Rattle.host_laws.specs.Calls.{ReapAnswers}
+use Rattle.host_laws.proofs.Reaps.{reap_answers}
+use Rattle.trace.specs.Observed.{Explains, next_payload, observed}
+use Rattle.trace.specs.Options.{no_options}
+use Rattle.trace.specs.declared.seen.ReapedLine.{ReapedLine}
+use Rattle.trace.specs.declared.seen.Seen.{Seen}
+use Rattle.trace.proofs.Beginnings.{all_explained}
+
+-- the Reap of a history that a line shows
+abbrev pub reap_of : ReapedLine → ReapLine
+reap_of r = record { queue = r.queue; cqe = r.cqe }
+
+-- a legal history ends with the Reap that a trace's newest line shows, and its beginning shows the lines before
+pub record LastReap (c : ConfigNumbers) (r : ReapedLine) (trace : List Seen) : Type 0 where
+  pub before : Past
+  pub legal : IsLegal c (Entry.Reap (reap_of r) ∷ before)
+  pub seen : observed c before ≡ trace
+  pub payload : next_payload c before r.queue ≡ r.payload
+
+-- or with a Publish
+pub record LastPublish (c : ConfigNumbers) (p : PublishLine) (trace : List Seen) : Type 0 where
+  pub before : Past
+  pub legal : IsLegal c (Entry.Publish p ∷ before)
+  pub seen : observed c before ≡ trace
+
+abbrev shown_reap : ConfigNumbers → Past → ReapLine → ReapedLine
+shown_reap c past l = record { queue = l.queue; cqe = l.cqe; payload = next_payload c past l.queue }
+
+reap_ends : (c : ConfigNumbers) (past : Past) (l : ReapLine) (r : ReapedLine) (trace : List Seen)
+    → IsLegal c (Entry.Reap l ∷ past) → shown_reap c past l ≡ r → observed c past ≡ trace → LastReap c r trace
+reap_ends c past l r trace h same seen =
+    let queue : l.queue ≡ r.queue = ap (λ (x : ReapedLine). x.queue) same in
+    let cqe : l.cqe ≡ r.cqe = ap (λ (x : ReapedLine). x.cqe) same in
+    let line : l ≡ reap_of r = ap₂ (λ n bytes. let x : ReapLine = record { queue = n; cqe = bytes } in x) queue cqe in
+    record {
+      before = past;
+      legal = subst (λ (x : ReapLine). IsLegal c (Entry.Reap x ∷ past)) line h;
+      seen = seen;
+      payload = ap (next_payload c past) (sym queue) ∙ ap (λ (x : ReapedLine). x.payload) same;
+    }
+
+pub last_reap : (c : ConfigNumbers) (past : Past) (r : ReapedLine) (trace : List Seen) → IsLegal c past
+    → observed c past ≡ Seen.Reaped r ∷ trace → LastReap c r trace
+last_reap c [] r trace h e = absurd (let f : [] ≡ Seen.Reaped r ∷ trace = e in cc)
+last_reap c (Entry.Publish p ∷ past) r trace h e =
+    absurd (let f : Seen.Published p ∷ observed c past ≡ Seen.Reaped r ∷ trace = e in cc)
+last_reap c (Entry.Reap l ∷ past) r trace h e =
+    let f : Seen.Reaped (shown_reap c past l) ∷ observed c past ≡ Seen.Reaped r ∷ trace = e in
+    reap_ends c past l r trace h (let x = f in cc) (let x = f in cc)
+last_reap c (Entry.Fetch x ∷ past) r trace h e = last_reap c past r trace (follows c past (Entry.Fetch x) h).before e
+last_reap c (Entry.Grant x ∷ past) r trace h e = last_reap c past r trace (follows c past (Entry.Grant x) h).before e
+last_reap c (Entry.Block x ∷ past) r trace h e = last_reap c past r trace (follows c past (Entry.Block x) h).before e
+last_reap c (Entry.Post x ∷ past) r trace h e = last_reap c past r trace (follows c past (Entry.Post x) h).before e
+
+pub explained_reap : (c : ConfigNumbers) (past : Past) (r : ReapedLine) (trace : List Seen)
+    → Explains no_options c past (Seen.Reaped r ∷ trace) → LastReap c r trace
+explained_reap c past r trace h =
+    let a = all_explained c past (Seen.Reaped r ∷ trace) h in
+    last_reap c past r trace a.0 a.1
+
+-- the entry that it answers
+pub answers : (c : ConfigNumbers) (r : ReapedLine) (trace : List Seen) (l : LastReap c r trace)
+    → ReapAnswers c l.before (reap_of r)
+answers c r trace l = reap_answers c l.before (reap_of r) l.legal
