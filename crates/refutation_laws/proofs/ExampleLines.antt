@@ -1,12 +1,23 @@
 -- Lines that the rules refute, and their neighbours that they don't.
-use Rattle.std.specs.Prelude.{List, [], false, refl, true, ℕ, ◌≡◌}
-use Rattle.nvme_model.specs.Examples.{cqe}
+use Rattle.std.specs.Prelude.{List, [], false, refl, true, ℕ, ◌∷◌, ◌≡◌}
+use Rattle.nvme_model.specs.Examples.{cqe, default, submit}
 use Rattle.trace.specs.declared.seen.ReapedLine.{ReapedLine}
-use Rattle.refutation_laws.specs.LineRules.{sets_unused_bits}
+use Rattle.trace.specs.declared.seen.Seen.{Seen}
+use Rattle.refutation_laws.specs.LineRules.{has_wrong_phase, sets_unused_bits}
 
 -- a Reap of completion queue n without data
 abbrev reaped : ℕ → List ℕ → ReapedLine
 reaped n bytes = record { queue = n; cqe = bytes; payload = [] }
+
+-- a Publish of one Flush with this CID to queue q, and its completion by itself, with this SQHD and this low byte of
+-- its status
+abbrev flush : ℕ → ℕ → Seen
+flush q cid = Seen.Published (record { queue = q; batch = submit 0 0 cid 0 0 [] ∷ [] })
+
+abbrev flushed : ℕ → ℕ → ℕ → ℕ → ReapedLine
+flushed q head cid low = reaped q (cqe head 0 q 0 cid 0 low 0)
+
+-- ---- unused bits
 
 -- Do Not Retry is set, or not
 pub retry : sets_unused_bits (reaped 1 (cqe 1 0 1 0 7 0 1 0x80)) ≡ true
@@ -14,3 +25,21 @@ retry = refl
 
 pub no_retry : sets_unused_bits (reaped 1 (cqe 1 0 1 0 7 0 1 0)) ≡ false
 no_retry = refl
+
+-- ---- the phase tag
+
+-- four slots go round: the fifth completion has phase 0 again
+abbrev four_flushes : List Seen
+four_flushes =
+    Seen.Reaped (flushed 1 0 4 1) ∷ flush 1 4 ∷ Seen.Reaped (flushed 1 3 3 1) ∷ flush 1 3
+    ∷ Seen.Reaped (flushed 1 2 2 1) ∷ flush 1 2 ∷ Seen.Reaped (flushed 1 1 1 1) ∷ flush 1 1 ∷ []
+
+pub same_phase : has_wrong_phase default (flush 1 5 ∷ four_flushes) (flushed 1 1 5 1) ≡ true
+same_phase = refl
+
+pub next_phase : has_wrong_phase default (flush 1 5 ∷ four_flushes) (flushed 1 1 5 0) ≡ false
+next_phase = refl
+
+-- the other completion queue counts its own
+pub other_phase : has_wrong_phase default (flush 2 5 ∷ four_flushes) (flushed 2 1 5 1) ≡ false
+other_phase = refl

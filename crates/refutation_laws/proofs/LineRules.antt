@@ -1,11 +1,43 @@
 -- No legal history's newest line breaks a rule of lines.
-use Rattle.std.proofs.Common.{◌≡◌, List, ap, false, not}
+use Rattle.std.proofs.Common.{◌≡◌, ◌%◌, ◌*◌, ◌+◌, ◌/◌, ◌∙◌, ◌≤◌, List, ap, arith, eq-eqb, false, not, ℕ, sym}
+use Rattle.nvme_model.specs.Completions.{phase, reaped_count}
+use Rattle.nvme_model.specs.Tickets.{ticket}
+use Rattle.nvme_model.specs.EntryBytes.{cqe_bytes, cqe_fields}
 use Rattle.nvme_model.specs.declared.config.ConfigNumbers.{ConfigNumbers}
+use Rattle.nvme_model.specs.declared.entry.Entry.{Entry}
+use Rattle.nvme_model.specs.declared.status.Status.{Status}
+use Rattle.nvme_model.proofs.Numbers.{posts_are_numbered}
+use Rattle.nvme_model.proofs.Rules.{follows}
+use Rattle.host_laws.proofs.Statuses.{phase_small}
 use Rattle.trace.specs.declared.seen.ReapedLine.{ReapedLine}
 use Rattle.trace.specs.declared.seen.Seen.{Seen}
-use Rattle.refutation_laws.specs.LineRules.{sets_unused_bits}
-use Rattle.refutation_laws.proofs.LastLine.{LastReap, answers}
+use Rattle.refutation_laws.specs.LineRules.{has_wrong_phase, sets_unused_bits}
+use Rattle.refutation_laws.specs.Lines.{reaped_in}
+use Rattle.refutation_laws.proofs.LastLine.{LastReap, answers, reap_of}
+use Rattle.refutation_laws.proofs.Lines.{reaped_seen}
 
 pub bits_unset : (c : ConfigNumbers) (r : ReapedLine) (trace : List Seen) → LastReap c r trace
     → sets_unused_bits r ≡ false
 bits_unset c r trace l = ap not (answers c r trace l).clean
+
+-- ---- the phase tag
+
+phase_back : (h q cid p : ℕ) (s : Status) → p ≤ 1 → (cqe_fields (cqe_bytes h q cid p s)).phase ≡ p
+phase_back h q cid p s l =
+    let w = p + (2 * s.sc + 512 * s.sct) in
+    let e : (w % 256 + 256 * ((w / 256) % 256 + 256 * 0)) % 2 ≡ p = omega (arith, l) in
+    e
+
+pub phase_right : (c : ConfigNumbers) (r : ReapedLine) (trace : List Seen) → LastReap c r trace
+    → has_wrong_phase c trace r ≡ false
+phase_right c r trace l =
+    let x = answers c r trace l in
+    let k = reaped_count l.before r.queue in
+    let n = posts_are_numbered c l.before r.queue k x.post (follows c l.before (Entry.Reap (reap_of r)) l.legal).before
+    x.posted in
+    let says : (cqe_fields r.cqe).phase ≡ phase k c.cq_size =
+    ap (λ (b : List ℕ). (cqe_fields b).phase) (sym x.cqe ∙ n.3)
+    ∙ phase_back n.0 (ticket l.before x.post.ticket).queue n.1 (phase k c.cq_size) n.2 (phase_small k c.cq_size) in
+    let count : k ≡ reaped_in trace r.queue =
+    reaped_seen c l.before r.queue ∙ ap (λ (t : List Seen). reaped_in t r.queue) l.seen in
+    ap not (eq-eqb _ _ (says ∙ ap (λ (n : ℕ). phase n c.cq_size) count))

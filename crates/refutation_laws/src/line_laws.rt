@@ -12,7 +12,7 @@ ghost use Rattle.trace.specs.Observed.{Explains, observed};
 ghost use Rattle.trace.specs.Options.{no_options};
 ghost use Rattle.trace.specs.declared.seen.ReapedLine.{ReapedLine};
 ghost use Rattle.trace.specs.declared.seen.Seen.{Seen};
-ghost use Rattle.refutation_laws.specs.LineRules.{sets_unused_bits};
+ghost use Rattle.refutation_laws.specs.LineRules.{has_wrong_phase, sets_unused_bits};
 ghost use Rattle.refutation_laws.specs.Lines.{answer_in, is_tidy, published_in, reaped_in, waiting_in};
 
 /// What hosts saw of a legal history tells which entries are published and how many completions are reaped. Where no
@@ -39,4 +39,10 @@ pub fn a_trace_tells_its_entries()
 pub fn no_completion_sets_unused_bits()
     ensures { (c : ConfigNumbers) (past : Past) (r : ReapedLine) (trace : List Seen) →
         Explains no_options c past (Seen.Reaped r ∷ trace) → sets_unused_bits r ≡ false }
+{}
+
+/// Its phase tag is that of its slot.
+pub fn no_completion_has_a_wrong_phase()
+    ensures { (c : ConfigNumbers) (past : Past) (r : ReapedLine) (trace : List Seen) →
+        Explains no_options c past (Seen.Reaped r ∷ trace) → has_wrong_phase c trace r ≡ false }
 {}
