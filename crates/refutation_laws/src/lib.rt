@@ -2,3 +2,4 @@
 #![tactic(auto)]
 
 pub mod line_laws;
+pub mod slice_laws;
