@@ -3,7 +3,7 @@ use Rattle.std.specs.Prelude.{List, [], false, refl, true, ℕ, ◌∷◌, ◌�
 use Rattle.nvme_model.specs.Examples.{cqe, default, submit}
 use Rattle.trace.specs.declared.seen.ReapedLine.{ReapedLine}
 use Rattle.trace.specs.declared.seen.Seen.{Seen}
-use Rattle.refutation_laws.specs.LineRules.{has_wrong_phase, sets_unused_bits}
+use Rattle.refutation_laws.specs.LineRules.{has_wrong_phase, names_wrong_queue, sets_unused_bits}
 
 -- a Reap of completion queue n without data
 abbrev reaped : ℕ → List ℕ → ReapedLine
@@ -43,3 +43,16 @@ next_phase = refl
 -- the other completion queue counts its own
 pub other_phase : has_wrong_phase default (flush 2 5 ∷ four_flushes) (flushed 2 1 5 1) ≡ false
 other_phase = refl
+
+-- ---- the submission queue
+
+-- each of two submission queues has its own completion queue
+pub own_queue : names_wrong_queue default (flushed 2 1 5 1) ≡ false
+own_queue = refl
+
+pub wrong_queue : names_wrong_queue default (reaped 1 (cqe 1 0 2 0 5 0 1 0)) ≡ true
+wrong_queue = refl
+
+-- there is no third
+pub no_such_queue : names_wrong_queue default (reaped 1 (cqe 1 0 3 0 5 0 1 0)) ≡ true
+no_such_queue = refl

@@ -1,6 +1,10 @@
 -- No legal history's newest line breaks a rule of lines.
-use Rattle.std.proofs.Common.{◌≡◌, ◌%◌, ◌*◌, ◌+◌, ◌/◌, ◌∙◌, ◌≤◌, List, ap, arith, eq-eqb, false, not, ℕ, sym}
+use Rattle.std.proofs.Common.{Bool, true, eqb, eqb-true, nat_lt, refl, ap₂, ◌||◌, ◌≡◌, ◌%◌, ◌*◌, ◌+◌, ◌/◌, ◌∙◌, ◌≤◌, List, ap, arith, eq-eqb, false, not, ℕ, sym}
 use Rattle.nvme_model.specs.Completions.{phase, reaped_count}
+use Rattle.std.proofs.lemmas.Bool.{le-ltb}
+use Rattle.nvme_model.specs.Config.{completion_queue, config_fault, is_accepted}
+use Rattle.nvme_model.specs.Refusals.{no_queue}
+use Rattle.nvme_model.proofs.Accepted.{accepted}
 use Rattle.nvme_model.specs.Tickets.{ticket}
 use Rattle.nvme_model.specs.EntryBytes.{cqe_bytes, cqe_fields}
 use Rattle.nvme_model.specs.declared.config.ConfigNumbers.{ConfigNumbers}
@@ -11,10 +15,10 @@ use Rattle.nvme_model.proofs.Rules.{follows}
 use Rattle.host_laws.proofs.Statuses.{phase_small}
 use Rattle.trace.specs.declared.seen.ReapedLine.{ReapedLine}
 use Rattle.trace.specs.declared.seen.Seen.{Seen}
-use Rattle.refutation_laws.specs.LineRules.{has_wrong_phase, sets_unused_bits}
+use Rattle.refutation_laws.specs.LineRules.{has_wrong_phase, names_wrong_queue, sets_unused_bits}
 use Rattle.refutation_laws.specs.Lines.{reaped_in}
 use Rattle.refutation_laws.proofs.LastLine.{LastReap, answers, reap_of}
-use Rattle.refutation_laws.proofs.Lines.{reaped_seen}
+use Rattle.refutation_laws.proofs.Lines.{none_is, reaped_seen}
 
 pub bits_unset : (c : ConfigNumbers) (r : ReapedLine) (trace : List Seen) → LastReap c r trace
     → sets_unused_bits r ≡ false
@@ -41,3 +45,29 @@ phase_right c r trace l =
     let count : k ≡ reaped_in trace r.queue =
     reaped_seen c l.before r.queue ∙ ap (λ (t : List Seen). reaped_in t r.queue) l.seen in
     ap not (eq-eqb _ _ (says ∙ ap (λ (n : ℕ). phase n c.cq_size) count))
+
+-- ---- the submission queue
+
+none_of : (a b : Bool) → a ≡ false → b ≡ false → (a || b) ≡ false
+none_of a b e f = ap₂ (λ x y. x || y) e f
+
+is_queue : (c : ConfigNumbers) (q : ℕ) → 1 ≤ q → q ≤ c.pairs → no_queue c q ≡ false
+is_queue c q l m = none_of (eqb q 0) (nat_lt c.pairs q) (some (eqb q 0) refl) (le-ltb c.pairs q m)
+  where
+    some : (b : Bool) → eqb q 0 ≡ b → b ≡ false
+    some true e = absurd (omega (arith, l, eqb-true q 0 e))
+    some false e = refl
+
+-- in an accepted configuration SQID has room for the queue's number
+pub names_its_queue : (c : ConfigNumbers) (r : ReapedLine) (trace : List Seen) → is_accepted c ≡ true
+    → (l : LastReap c r trace) → (cqe_fields r.cqe).sqid ≡ (answers c r trace l).queue
+names_its_queue c r trace a l =
+    let x = answers c r trace l in
+    x.sqid (omega (arith, x.few, (accepted c (none_is (config_fault c) a)).most_pairs))
+
+pub queue_right : (c : ConfigNumbers) (r : ReapedLine) (trace : List Seen) → is_accepted c ≡ true
+    → LastReap c r trace → names_wrong_queue c r ≡ false
+queue_right c r trace a l =
+    let x = answers c r trace l in
+    ap (λ (q : ℕ). no_queue c q || not (eqb (completion_queue c q) r.queue)) (names_its_queue c r trace a l)
+    ∙ none_of _ _ (is_queue c x.queue x.some x.few) (ap not (eq-eqb (completion_queue c x.queue) r.queue x.own))

@@ -78,7 +78,7 @@ record FreeFirst (book : Book) (q j : ℕ) (s : Submission) (batch : List Submis
   none : book q (cid_of s) ≡ None
   rest : has_free_cids (with_entry book q (cid_of s) j) q (suc j) batch ≡ true
 
-none_is : (o : Option ℕ) → is_none o ≡ true → o ≡ None
+pub none_is : {A : Type 0} (o : Option A) → is_none o ≡ true → o ≡ None
 none_is None h = refl
 none_is (Some j) h = absurd (let f : false ≡ true = h in cc)
 

@@ -1,7 +1,9 @@
 -- What the newest line of a trace can't be in any history that explains it, whatever the controller did unseen.
-use Rattle.std.specs.Prelude.{Bool, List, not, ◌==◌}
+use Rattle.std.specs.Prelude.{Bool, List, not, ◌==◌, ◌||◌}
 use Rattle.nvme_model.specs.Completions.{phase}
+use Rattle.nvme_model.specs.Config.{completion_queue}
 use Rattle.nvme_model.specs.EntryBytes.{cqe_fields}
+use Rattle.nvme_model.specs.Refusals.{no_queue}
 use Rattle.nvme_model.specs.declared.config.ConfigNumbers.{ConfigNumbers}
 use Rattle.host_laws.specs.Calls.{is_clean}
 use Rattle.trace.specs.declared.seen.ReapedLine.{ReapedLine}
@@ -15,3 +17,9 @@ sets_unused_bits r = not (is_clean r.cqe)
 -- Its phase tag isn't that of the slot that comes next in its completion queue, behind those that these lines reap.
 abbrev pub has_wrong_phase : ConfigNumbers → List Seen → ReapedLine → Bool
 has_wrong_phase c trace r = not ((cqe_fields r.cqe).phase == phase (reaped_in trace r.queue) c.cq_size)
+
+-- It names no submission queue that uses its completion queue.
+abbrev pub names_wrong_queue : ConfigNumbers → ReapedLine → Bool
+names_wrong_queue c r =
+    let q = (cqe_fields r.cqe).sqid in
+    no_queue c q || not (completion_queue c q == r.queue)

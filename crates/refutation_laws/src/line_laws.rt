@@ -2,6 +2,7 @@
 
 ghost use Rattle.std.specs.Prelude.{◌≡◌, ◌++◌, ◌∷◌, ℕ, List, None, Some, false, true};
 ghost use Rattle.nvme_model.specs.Completions.{reaped_count};
+ghost use Rattle.nvme_model.specs.Config.{is_accepted};
 ghost use Rattle.nvme_model.specs.History.{Past};
 ghost use Rattle.nvme_model.specs.Legal.{IsLegal};
 ghost use Rattle.nvme_model.specs.Queues.{published_entries};
@@ -12,7 +13,7 @@ ghost use Rattle.trace.specs.Observed.{Explains, observed};
 ghost use Rattle.trace.specs.Options.{no_options};
 ghost use Rattle.trace.specs.declared.seen.ReapedLine.{ReapedLine};
 ghost use Rattle.trace.specs.declared.seen.Seen.{Seen};
-ghost use Rattle.refutation_laws.specs.LineRules.{has_wrong_phase, sets_unused_bits};
+ghost use Rattle.refutation_laws.specs.LineRules.{has_wrong_phase, names_wrong_queue, sets_unused_bits};
 ghost use Rattle.refutation_laws.specs.Lines.{answer_in, is_tidy, published_in, reaped_in, waiting_in};
 
 /// What hosts saw of a legal history tells which entries are published and how many completions are reaped. Where no
@@ -45,4 +46,10 @@ pub fn no_completion_sets_unused_bits()
 pub fn no_completion_has_a_wrong_phase()
     ensures { (c : ConfigNumbers) (past : Past) (r : ReapedLine) (trace : List Seen) →
         Explains no_options c past (Seen.Reaped r ∷ trace) → has_wrong_phase c trace r ≡ false }
+{}
+
+/// In an accepted configuration it names a submission queue that uses its completion queue.
+pub fn no_completion_names_a_wrong_queue()
+    ensures { (c : ConfigNumbers) (past : Past) (r : ReapedLine) (trace : List Seen) → is_accepted c ≡ true →
+        Explains no_options c past (Seen.Reaped r ∷ trace) → names_wrong_queue c r ≡ false }
 {}
