@@ -3,7 +3,8 @@ use Rattle.std.specs.Prelude.{List, [], false, refl, true, ℕ, ◌∷◌, ◌�
 use Rattle.nvme_model.specs.Examples.{cqe, default, submit}
 use Rattle.trace.specs.declared.seen.ReapedLine.{ReapedLine}
 use Rattle.trace.specs.declared.seen.Seen.{Seen}
-use Rattle.refutation_laws.specs.LineRules.{has_wrong_phase, names_wrong_queue, sets_unused_bits}
+use Rattle.refutation_laws.specs.Lines.{is_tidy}
+use Rattle.refutation_laws.specs.LineRules.{has_wrong_phase, names_no_entry, names_wrong_queue, sets_unused_bits}
 
 -- a Reap of completion queue n without data
 abbrev reaped : ℕ → List ℕ → ReapedLine
@@ -56,3 +57,23 @@ wrong_queue = refl
 -- there is no third
 pub no_such_queue : names_wrong_queue default (reaped 1 (cqe 1 0 3 0 5 0 1 0)) ≡ true
 no_such_queue = refl
+
+-- ---- the entry
+
+pub entry_waits : names_no_entry (flush 1 5 ∷ four_flushes) (flushed 1 1 5 0) ≡ false
+entry_waits = refl
+
+-- its completion was reaped before
+pub entry_was_reaped : names_no_entry (flush 1 5 ∷ four_flushes) (flushed 1 1 4 0) ≡ true
+entry_was_reaped = refl
+
+-- that CID waits on the other queue
+pub entry_of_another_queue : names_no_entry (flush 2 5 ∷ four_flushes) (flushed 1 1 5 0) ≡ true
+entry_of_another_queue = refl
+
+-- a CID that is published again while it waits makes a trace untidy, one that was reaped doesn't
+pub twice_out : is_tidy (flush 1 5 ∷ flush 1 5 ∷ four_flushes) ≡ false
+twice_out = refl
+
+pub once_out : is_tidy (flush 2 5 ∷ flush 1 5 ∷ four_flushes) ≡ true
+once_out = refl

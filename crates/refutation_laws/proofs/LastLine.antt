@@ -68,6 +68,6 @@ explained_reap c past r trace h =
     last_reap c past r trace a.0 a.1
 
 -- the entry that it answers
-pub answers : (c : ConfigNumbers) (r : ReapedLine) (trace : List Seen) (l : LastReap c r trace)
+abbrev pub answers : (c : ConfigNumbers) (r : ReapedLine) (trace : List Seen) (l : LastReap c r trace)
     → ReapAnswers c l.before (reap_of r)
 answers c r trace l = reap_answers c l.before (reap_of r) l.legal

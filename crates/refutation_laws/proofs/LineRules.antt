@@ -1,5 +1,5 @@
 -- No legal history's newest line breaks a rule of lines.
-use Rattle.std.proofs.Common.{Bool, true, eqb, eqb-true, nat_lt, refl, ap₂, ◌||◌, ◌≡◌, ◌%◌, ◌*◌, ◌+◌, ◌/◌, ◌∙◌, ◌≤◌, List, ap, arith, eq-eqb, false, not, ℕ, sym}
+use Rattle.std.proofs.Common.{Bool, Some, is_none, subst, true, eqb, eqb-true, nat_lt, refl, ap₂, ◌||◌, ◌≡◌, ◌%◌, ◌*◌, ◌+◌, ◌/◌, ◌∙◌, ◌≤◌, List, ap, arith, eq-eqb, false, not, ℕ, sym}
 use Rattle.nvme_model.specs.Completions.{phase, reaped_count}
 use Rattle.std.proofs.lemmas.Bool.{le-ltb}
 use Rattle.nvme_model.specs.Config.{completion_queue, config_fault, is_accepted}
@@ -15,10 +15,10 @@ use Rattle.nvme_model.proofs.Rules.{follows}
 use Rattle.host_laws.proofs.Statuses.{phase_small}
 use Rattle.trace.specs.declared.seen.ReapedLine.{ReapedLine}
 use Rattle.trace.specs.declared.seen.Seen.{Seen}
-use Rattle.refutation_laws.specs.LineRules.{has_wrong_phase, names_wrong_queue, sets_unused_bits}
-use Rattle.refutation_laws.specs.Lines.{reaped_in}
+use Rattle.refutation_laws.specs.LineRules.{has_wrong_phase, names_no_entry, names_wrong_queue, sets_unused_bits}
+use Rattle.refutation_laws.specs.Lines.{answered, is_tidy, reaped_in}
 use Rattle.refutation_laws.proofs.LastLine.{LastReap, answers, reap_of}
-use Rattle.refutation_laws.proofs.Lines.{none_is, reaped_seen}
+use Rattle.refutation_laws.proofs.Lines.{answers_one, none_is, reaped_seen}
 
 pub bits_unset : (c : ConfigNumbers) (r : ReapedLine) (trace : List Seen) → LastReap c r trace
     → sets_unused_bits r ≡ false
@@ -71,3 +71,16 @@ queue_right c r trace a l =
     let x = answers c r trace l in
     ap (λ (q : ℕ). no_queue c q || not (eqb (completion_queue c q) r.queue)) (names_its_queue c r trace a l)
     ∙ none_of _ _ (is_queue c x.queue x.some x.few) (ap not (eq-eqb (completion_queue c x.queue) r.queue x.own))
+
+-- ---- the entry
+
+-- behind tidy lines the entry that it answers is the one that waits under its CID
+pub names_its_entry : (c : ConfigNumbers) (r : ReapedLine) (trace : List Seen) → is_tidy trace ≡ true
+    → (l : LastReap c r trace) → answered trace r.cqe ≡ Some (answers c r trace l).number
+names_its_entry c r trace d l =
+    subst (λ (t : List Seen). answered t r.cqe ≡ Some (answers c r trace l).number) l.seen
+    (answers_one c l.before (reap_of r) l.legal (subst (λ (t : List Seen). is_tidy t ≡ true) (sym l.seen) d)).number
+
+pub entry_right : (c : ConfigNumbers) (r : ReapedLine) (trace : List Seen) → is_tidy trace ≡ true
+    → LastReap c r trace → names_no_entry trace r ≡ false
+entry_right c r trace d l = ap is_none (names_its_entry c r trace d l)
