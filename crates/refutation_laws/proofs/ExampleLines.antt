@@ -4,7 +4,7 @@ use Rattle.nvme_model.specs.Examples.{cqe, default, submit}
 use Rattle.trace.specs.declared.seen.ReapedLine.{ReapedLine}
 use Rattle.trace.specs.declared.seen.Seen.{Seen}
 use Rattle.refutation_laws.specs.Lines.{is_tidy}
-use Rattle.refutation_laws.specs.LineRules.{has_wrong_phase, names_no_entry, names_wrong_queue, sets_unused_bits}
+use Rattle.refutation_laws.specs.LineRules.{has_wrong_head, has_wrong_phase, names_no_entry, names_wrong_queue, sets_unused_bits}
 
 -- a Reap of completion queue n without data
 abbrev reaped : ℕ → List ℕ → ReapedLine
@@ -77,3 +77,34 @@ twice_out = refl
 
 pub once_out : is_tidy (flush 2 5 ∷ flush 1 5 ∷ four_flushes) ≡ true
 once_out = refl
+
+-- ---- SQHD
+
+-- the fifth entry of four slots is fetched
+pub head_of_fifth : has_wrong_head default (flush 1 5 ∷ four_flushes) (flushed 1 1 5 0) ≡ false
+head_of_fifth = refl
+
+-- its own entry isn't fetched
+pub head_before_entry : has_wrong_head default (flush 1 5 ∷ four_flushes) (flushed 1 0 5 0) ≡ true
+head_before_entry = refl
+
+-- six entries aren't published, or are
+pub head_of_none : has_wrong_head default (flush 1 5 ∷ four_flushes) (flushed 1 2 5 0) ≡ true
+head_of_none = refl
+
+pub head_of_sixth : has_wrong_head default (flush 1 6 ∷ flush 1 5 ∷ four_flushes) (flushed 1 2 5 0) ≡ false
+head_of_sixth = refl
+
+-- there is no fifth slot
+pub no_such_slot : has_wrong_head default (flush 1 6 ∷ flush 1 5 ∷ four_flushes) (flushed 1 4 5 0) ≡ true
+no_such_slot = refl
+
+-- six were fetched before
+abbrev after_sixth : List Seen
+after_sixth = Seen.Reaped (flushed 1 2 6 0) ∷ flush 1 6 ∷ flush 1 5 ∷ four_flushes
+
+pub head_goes_back : has_wrong_head default after_sixth (flushed 1 1 5 0) ≡ true
+head_goes_back = refl
+
+pub head_stays : has_wrong_head default after_sixth (flushed 1 2 5 0) ≡ false
+head_stays = refl

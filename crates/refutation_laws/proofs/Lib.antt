@@ -1,6 +1,8 @@
 pub mod Lines
 pub mod LastLine
 pub mod LineRules
+pub mod Heads
+pub mod LeastFetched
 pub mod ExampleLines
 pub mod NamedEffects
 pub mod ToldTickets

@@ -48,7 +48,7 @@ phase_right c r trace l =
 
 -- ---- the submission queue
 
-none_of : (a b : Bool) → a ≡ false → b ≡ false → (a || b) ≡ false
+pub none_of : (a b : Bool) → a ≡ false → b ≡ false → (a || b) ≡ false
 none_of a b e f = ap₂ (λ x y. x || y) e f
 
 is_queue : (c : ConfigNumbers) (q : ℕ) → 1 ≤ q → q ≤ c.pairs → no_queue c q ≡ false
