@@ -1,5 +1,7 @@
 -- The newest line of a trace is the newest Publish or Reap of each history that explains it.
-use Rattle.std.proofs.Common.{◌≡◌, List, [], ◌∷◌, ◌∙◌, ap, ap₂, subst, sym}
+use Rattle.std.proofs.Common.{refl, Bool, cond, eqb, eqb-true, false, None, Option, Some, slice_get, true, ◌&&◌, ◌≡◌, List, [], ◌∷◌, ◌∙◌, ap, ap₂, subst, sym}
+use Rattle.std.proofs.lemmas.Bool.{and_parts}
+use Rattle.nvme_model.specs.Completions.{reaped_count}
 use Rattle.nvme_model.specs.History.{Past}
 use Rattle.nvme_model.specs.Legal.{IsLegal}
 use Rattle.nvme_model.specs.declared.config.ConfigNumbers.{ConfigNumbers}
@@ -7,7 +9,8 @@ use Rattle.nvme_model.specs.declared.entry.Entry.{Entry}
 use Rattle.nvme_model.specs.declared.entry.PublishLine.{PublishLine}
 use Rattle.nvme_model.specs.declared.entry.ReapLine.{ReapLine}
 use Rattle.nvme_model.proofs.Rules.{follows}
-use Rattle.host_laws.specs.Calls.{ReapAnswers}
+use Rattle.host_laws.specs.Calls.{PostedAnswer, ReapAnswers, post_if, posted_answers, reaped_post}
+use Rattle.host_laws.proofs.Elements.{same_some}
 use Rattle.host_laws.proofs.Reaps.{reap_answers}
 use Rattle.trace.specs.Observed.{Explains, next_payload, observed}
 use Rattle.trace.specs.Options.{no_options}
@@ -71,3 +74,32 @@ explained_reap c past r trace h =
 abbrev pub answers : (c : ConfigNumbers) (r : ReapedLine) (trace : List Seen) (l : LastReap c r trace)
     → ReapAnswers c l.before (reap_of r)
 answers c r trace l = reap_answers c l.before (reap_of r) l.legal
+
+-- the Post that a Reap takes is for the entry that it answers
+pub record AnswerOf (c : ConfigNumbers) (past : Past) (r : ReapLine) (x : ReapAnswers c past r) : Type 0 where
+  pub answer : PostedAnswer
+  pub at : slice_get (posted_answers c past r.queue) (reaped_count past r.queue) ≡ Some answer
+  pub queue : answer.queue ≡ x.queue
+  pub number : answer.number ≡ x.number
+  pub post : answer.post ≡ x.post
+
+pub reaped_answer : (c : ConfigNumbers) (past : Past) (r : ReapLine) (x : ReapAnswers c past r) → AnswerOf c past r x
+reaped_answer c past r x = by_answer (slice_get (posted_answers c past r.queue) (reaped_count past r.queue)) refl x.reaped
+  where
+    by_answer : (o : Option PostedAnswer) → slice_get (posted_answers c past r.queue) (reaped_count past r.queue) ≡ o
+        → post_if x.queue x.number o (reaped_post c past x.queue x.number) ≡ Some x.post → AnswerOf c past r x
+    by_answer None e f = absurd (let g : Some x.post ≡ None = sym f ∙ x.unreaped in cc)
+    by_answer (Some a) e f = by_number (eqb a.queue x.queue && eqb a.number x.number) refl f
+      where
+        by_number : (b : Bool) → (eqb a.queue x.queue && eqb a.number x.number) ≡ b
+            → cond b (Some a.post) (reaped_post c past x.queue x.number) ≡ Some x.post → AnswerOf c past r x
+        by_number false z g = absurd (let k : Some x.post ≡ None = sym g ∙ x.unreaped in cc)
+        by_number true z g =
+            let k = and_parts _ _ z in
+            record {
+              answer = a;
+              at = e;
+              queue = eqb-true _ _ k.0;
+              number = eqb-true _ _ k.1;
+              post = same_some a.post x.post (Some a.post) refl g;
+            }

@@ -1,9 +1,9 @@
 -- As many entries were fetched as a trace says at least.
-use Rattle.std.proofs.Common.{◌≡◌, ℕ, suc, ◌%◌, ◌<◌, ◌≤◌, Bool, true, false, ◌&&◌, cond, List, [], ◌∷◌}
-use Rattle.std.proofs.Common.{◌⊎◌, Option, None, Some, length, max, slice_get, nat_lt, refl, sym, ap, ◌∙◌, subst, inl}
+use Rattle.std.proofs.Common.{◌≡◌, ℕ, suc, ◌%◌, ◌<◌, ◌≤◌, Bool, true, false, List, [], ◌∷◌}
+use Rattle.std.proofs.Common.{◌⊎◌, Some, length, max, slice_get, nat_lt, refl, sym, ap, ◌∙◌, subst, inl}
 use Rattle.std.proofs.Common.{inr, arith, eqb, eqb-true, eq-eqb, not}
 use Rattle.std.proofs.Math.Nat.{max-le, mod-lt}
-use Rattle.std.proofs.lemmas.Bool.{and_parts, cond-true, cond-false, le-ltb, lt-ltb}
+use Rattle.std.proofs.lemmas.Bool.{cond-true, cond-false, le-ltb, lt-ltb}
 use Rattle.ticket_laws.proofs.Counts.{fetched_within}
 use Rattle.nvme_model.specs.Completions.{reaped_count}
 use Rattle.nvme_model.specs.Config.{completion_queue, config_fault, is_accepted}
@@ -18,8 +18,8 @@ use Rattle.nvme_model.specs.declared.entry.ReapLine.{ReapLine}
 use Rattle.nvme_model.specs.declared.submission.Submission.{Submission}
 use Rattle.nvme_model.proofs.Accepted.{accepted}
 use Rattle.nvme_model.proofs.Rules.{follows}
-use Rattle.host_laws.specs.Calls.{PostedAnswer, ReapAnswers, post_if, posted_answers, reaped_post}
-use Rattle.host_laws.proofs.Elements.{get_append, same_some}
+use Rattle.host_laws.specs.Calls.{PostedAnswer, ReapAnswers}
+use Rattle.host_laws.proofs.Elements.{get_append}
 use Rattle.host_laws.proofs.Reaps.{reap_answers}
 use Rattle.trace.specs.Observed.{observed}
 use Rattle.trace.specs.declared.seen.ReapedLine.{ReapedLine}
@@ -27,7 +27,7 @@ use Rattle.trace.specs.declared.seen.Seen.{Seen}
 use Rattle.refutation_laws.specs.LineRules.{count_to, has_wrong_head, least_fetched, next_at}
 use Rattle.refutation_laws.specs.Lines.{answered, is_tidy, published_in}
 use Rattle.refutation_laws.proofs.Heads.{FitsHead, Head, head_is, head_of, heads, heads_rise, next_below}
-use Rattle.refutation_laws.proofs.LastLine.{LastReap, reap_of}
+use Rattle.refutation_laws.proofs.LastLine.{LastReap, reap_of, reaped_answer}
 use Rattle.refutation_laws.proofs.LineRules.{none_of}
 use Rattle.refutation_laws.proofs.Lines.{AnswersOne, answers_one, none_is, published_seen, tidy_publish}
 
@@ -41,27 +41,16 @@ pub record HeadOf (c : ConfigNumbers) (past : Past) (r : ReapLine) (x : ReapAnsw
   pub cqe : head.0.post.cqe ≡ r.cqe
 
 pub reaped_head : (c : ConfigNumbers) (past : Past) (r : ReapLine) (x : ReapAnswers c past r) → HeadOf c past r x
-reaped_head c past r x = by_answer (slice_get (posted_answers c past r.queue) (reaped_count past r.queue)) refl x.reaped
-  where
-    by_answer : (o : Option PostedAnswer) → slice_get (posted_answers c past r.queue) (reaped_count past r.queue) ≡ o
-        → post_if x.queue x.number o (reaped_post c past x.queue x.number) ≡ Some x.post → HeadOf c past r x
-    by_answer None e f = absurd (let g : Some x.post ≡ None = sym f ∙ x.unreaped in cc)
-    by_answer (Some a) e f = by_number (eqb a.queue x.queue && eqb a.number x.number) refl f
-      where
-        by_number : (b : Bool) → (eqb a.queue x.queue && eqb a.number x.number) ≡ b
-            → cond b (Some a.post) (reaped_post c past x.queue x.number) ≡ Some x.post → HeadOf c past r x
-        by_number false z g = absurd (let k : Some x.post ≡ None = sym g ∙ x.unreaped in cc)
-        by_number true z g =
-            let k = and_parts _ _ z in
-            let h = head_of c past r.queue (reaped_count past r.queue) a e in
-            record {
-              head = h.0;
-              at = h.1;
-              queue = ap (λ (y : PostedAnswer). y.queue) h.2 ∙ eqb-true _ _ k.0;
-              number = ap (λ (y : PostedAnswer). y.number) h.2 ∙ eqb-true _ _ k.1;
-              cqe = ap (λ (y : PostedAnswer). y.post.cqe) h.2
-                  ∙ (ap (λ (y : PostLine). y.cqe) (same_some a.post x.post (Some a.post) refl g) ∙ x.cqe);
-            }
+reaped_head c past r x =
+    let y = reaped_answer c past r x in
+    let h = head_of c past r.queue (reaped_count past r.queue) y.answer y.at in
+    record {
+      head = h.0;
+      at = h.1;
+      queue = ap (λ (z : PostedAnswer). z.queue) h.2 ∙ y.queue;
+      number = ap (λ (z : PostedAnswer). z.number) h.2 ∙ y.number;
+      cqe = ap (λ (z : PostedAnswer). z.post.cqe) h.2 ∙ (ap (λ (z : PostLine). z.cqe) y.post ∙ x.cqe);
+    }
 
 -- ---- the least number is right
 

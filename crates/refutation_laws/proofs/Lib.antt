@@ -3,7 +3,11 @@ pub mod LastLine
 pub mod LineRules
 pub mod Heads
 pub mod LeastFetched
+pub mod TableStatus
+pub mod Fetching
+pub mod Answering
 pub mod ExampleLines
+pub mod ExampleStatuses
 pub mod NamedEffects
 pub mod ToldTickets
 pub mod Answered

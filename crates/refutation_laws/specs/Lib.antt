@@ -1,4 +1,5 @@
 pub mod Lines
+pub mod MayAnswer
 pub mod LineRules
 pub mod Effects
 pub mod Slices

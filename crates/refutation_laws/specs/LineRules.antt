@@ -1,15 +1,19 @@
 -- What the newest line of a trace can't be in any history that explains it, whatever the controller did unseen.
-use Rattle.std.specs.Prelude.{Bool, List, None, Option, Some, [], if◌then◌else◌, is_none, length, max, nat_lt, not, suc, ℕ}
+use Rattle.std.specs.Prelude.{Bool, List, None, Option, Some, [], if◌then◌else◌, is_none, length, max, nat_lt, not, slice_get, suc}
+use Rattle.std.specs.Prelude.{ℕ, false}
 use Rattle.std.specs.Prelude.{◌%◌, ◌+◌, ◌-◌, ◌==◌, ◌||◌, ◌∷◌}
 use Rattle.nvme_model.specs.Completions.{phase}
 use Rattle.nvme_model.specs.Config.{completion_queue}
 use Rattle.nvme_model.specs.EntryBytes.{cqe_fields}
 use Rattle.nvme_model.specs.Refusals.{no_queue}
 use Rattle.nvme_model.specs.declared.config.ConfigNumbers.{ConfigNumbers}
-use Rattle.host_laws.specs.Calls.{is_clean}
+use Rattle.nvme_model.specs.declared.status.Status.{Status}
+use Rattle.nvme_model.specs.declared.submission.Submission.{Submission}
+use Rattle.host_laws.specs.Calls.{cqe_status, is_clean}
 use Rattle.trace.specs.declared.seen.ReapedLine.{ReapedLine}
 use Rattle.trace.specs.declared.seen.Seen.{Seen}
 use Rattle.refutation_laws.specs.Lines.{answered, published_in, reaped_in}
+use Rattle.refutation_laws.specs.MayAnswer.{may_answer}
 
 -- The completion sets a bit that this profile leaves zero: in DW0 or DW1, the Command Retry Delay, More or Do Not Retry.
 abbrev pub sets_unused_bits : ReapedLine → Bool
@@ -55,3 +59,18 @@ has_wrong_head c trace r =
     let e = cqe_fields r.cqe in
     not (nat_lt e.sqhd c.sq_size)
     || nat_lt (length (published_in trace e.sqid)) (least_fetched c (Seen.Reaped r ∷ trace) e.sqid)
+
+-- There is this entry, which has number j on submission queue q, and it may not be answered so.
+abbrev pub may_not_answer : ConfigNumbers → List Seen → ℕ → ℕ → Option Submission → Status → Bool
+may_not_answer c trace q j None s = false
+may_not_answer c trace q j (Some entry) s = not (may_answer c trace q j entry s)
+
+-- The same, of the number of an entry of submission queue q.
+abbrev pub number_may_not : ConfigNumbers → List Seen → ℕ → Option ℕ → Status → Bool
+number_may_not c trace q None s = false
+number_may_not c trace q (Some j) s = may_not_answer c trace q j (slice_get (published_in trace q) j) s
+
+-- Its status isn't one that the entry that it answers may be answered, by its own fields and those of its neighbours.
+abbrev pub has_wrong_status : ConfigNumbers → List Seen → ReapedLine → Bool
+has_wrong_status c trace r =
+    number_may_not c trace (cqe_fields r.cqe).sqid (answered trace r.cqe) (cqe_status r.cqe)

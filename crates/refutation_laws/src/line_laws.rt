@@ -13,7 +13,8 @@ ghost use Rattle.trace.specs.Observed.{Explains, observed};
 ghost use Rattle.trace.specs.Options.{no_options};
 ghost use Rattle.trace.specs.declared.seen.ReapedLine.{ReapedLine};
 ghost use Rattle.trace.specs.declared.seen.Seen.{Seen};
-ghost use Rattle.refutation_laws.specs.LineRules.{has_wrong_head, has_wrong_phase, names_no_entry, names_wrong_queue, sets_unused_bits};
+ghost use Rattle.refutation_laws.specs.LineRules.{has_wrong_head, has_wrong_phase, has_wrong_status, names_no_entry, names_wrong_queue};
+ghost use Rattle.refutation_laws.specs.LineRules.{sets_unused_bits};
 ghost use Rattle.refutation_laws.specs.Lines.{answer_in, is_tidy, published_in, reaped_in, waiting_in};
 
 /// What hosts saw of a legal history tells which entries are published and how many completions are reaped. Where no
@@ -64,4 +65,10 @@ pub fn no_completion_names_no_entry()
 pub fn no_completion_has_a_wrong_head()
     ensures { (c : ConfigNumbers) (past : Past) (r : ReapedLine) (trace : List Seen) → is_accepted c ≡ true →
         is_tidy trace ≡ true → Explains no_options c past (Seen.Reaped r ∷ trace) → has_wrong_head c trace r ≡ false }
+{}
+
+/// Its status is one that its entry may be answered, by the entry's own fields and those of its neighbours.
+pub fn no_completion_has_a_wrong_status()
+    ensures { (c : ConfigNumbers) (past : Past) (r : ReapedLine) (trace : List Seen) → is_tidy trace ≡ true →
+        Explains no_options c past (Seen.Reaped r ∷ trace) → has_wrong_status c trace r ≡ false }
 {}
