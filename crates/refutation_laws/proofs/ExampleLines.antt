@@ -1,10 +1,13 @@
 -- Lines that the rules refute, and their neighbours that they don't.
-use Rattle.std.specs.Prelude.{List, [], false, refl, true, ℕ, ◌∷◌, ◌≡◌}
+use Rattle.std.specs.Prelude.{List, [], false, refl, replicate, true, ℕ, ◌∷◌, ◌≡◌}
 use Rattle.nvme_model.specs.Examples.{cqe, default, submit}
+use Rattle.nvme_model.specs.declared.entry.PublishLine.{PublishLine}
+use Rattle.nvme_model.specs.declared.submission.Submission.{Submission}
 use Rattle.trace.specs.declared.seen.ReapedLine.{ReapedLine}
 use Rattle.trace.specs.declared.seen.Seen.{Seen}
 use Rattle.refutation_laws.specs.Lines.{is_tidy}
-use Rattle.refutation_laws.specs.LineRules.{has_wrong_head, has_wrong_phase, names_no_entry, names_wrong_queue, sets_unused_bits}
+use Rattle.refutation_laws.specs.LineRules.{has_wrong_batch, has_wrong_head, has_wrong_phase, is_bad_line, names_no_entry}
+use Rattle.refutation_laws.specs.LineRules.{names_wrong_queue, sets_unused_bits}
 
 -- a Reap of completion queue n without data
 abbrev reaped : ℕ → List ℕ → ReapedLine
@@ -108,3 +111,37 @@ head_goes_back = refl
 
 pub head_stays : has_wrong_head default after_sixth (flushed 1 2 5 0) ≡ false
 head_stays = refl
+
+-- ---- a Publish
+
+abbrev batch_to : ℕ → List Submission → PublishLine
+batch_to q batch = record { queue = q; batch = batch }
+
+-- four slots hold three entries
+pub three_entries : has_wrong_batch default (batch_to 2 (replicate 3 (submit 0 0 1 0 0 []))) ≡ false
+three_entries = refl
+
+pub four_entries : has_wrong_batch default (batch_to 2 (replicate 4 (submit 0 0 1 0 0 []))) ≡ true
+four_entries = refl
+
+pub no_entry : has_wrong_batch default (batch_to 2 []) ≡ true
+no_entry = refl
+
+pub third_queue : has_wrong_batch default (batch_to 3 (submit 0 0 1 0 0 [] ∷ [])) ≡ true
+third_queue = refl
+
+-- ---- any line
+
+pub bad_phase : is_bad_line default (Seen.Reaped (flushed 1 1 5 1) ∷ flush 1 5 ∷ four_flushes) ≡ true
+bad_phase = refl
+
+pub good_line : is_bad_line default (Seen.Reaped (flushed 1 1 5 0) ∷ flush 1 5 ∷ four_flushes) ≡ false
+good_line = refl
+
+-- 'LBA Out of Range' of a Flush
+pub bad_status : is_bad_line default (Seen.Reaped (reaped 1 (cqe 1 0 1 0 5 0 0 1)) ∷ flush 1 5 ∷ four_flushes) ≡ true
+bad_status = refl
+
+-- where a CID is published twice, SQHD isn't asked
+pub untidy_line : is_bad_line default (Seen.Reaped (flushed 1 2 5 0) ∷ flush 1 5 ∷ flush 1 5 ∷ four_flushes) ≡ false
+untidy_line = refl

@@ -64,11 +64,39 @@ last_reap c (Entry.Grant x ∷ past) r trace h e = last_reap c past r trace (fol
 last_reap c (Entry.Block x ∷ past) r trace h e = last_reap c past r trace (follows c past (Entry.Block x) h).before e
 last_reap c (Entry.Post x ∷ past) r trace h e = last_reap c past r trace (follows c past (Entry.Post x) h).before e
 
+pub last_publish : (c : ConfigNumbers) (past : Past) (p : PublishLine) (trace : List Seen) → IsLegal c past
+    → observed c past ≡ Seen.Published p ∷ trace → LastPublish c p trace
+last_publish c [] p trace h e = absurd (let f : [] ≡ Seen.Published p ∷ trace = e in cc)
+last_publish c (Entry.Publish l ∷ past) p trace h e =
+    let f : Seen.Published l ∷ observed c past ≡ Seen.Published p ∷ trace = e in
+    let line : l ≡ p = let x = f in cc in
+    record {
+      before = past;
+      legal = subst (λ (x : PublishLine). IsLegal c (Entry.Publish x ∷ past)) line h;
+      seen = let x = f in cc;
+    }
+last_publish c (Entry.Reap l ∷ past) p trace h e =
+    absurd (let f : Seen.Reaped (shown_reap c past l) ∷ observed c past ≡ Seen.Published p ∷ trace = e in cc)
+last_publish c (Entry.Fetch x ∷ past) p trace h e =
+    last_publish c past p trace (follows c past (Entry.Fetch x) h).before e
+last_publish c (Entry.Grant x ∷ past) p trace h e =
+    last_publish c past p trace (follows c past (Entry.Grant x) h).before e
+last_publish c (Entry.Block x ∷ past) p trace h e =
+    last_publish c past p trace (follows c past (Entry.Block x) h).before e
+last_publish c (Entry.Post x ∷ past) p trace h e =
+    last_publish c past p trace (follows c past (Entry.Post x) h).before e
+
 pub explained_reap : (c : ConfigNumbers) (past : Past) (r : ReapedLine) (trace : List Seen)
     → Explains no_options c past (Seen.Reaped r ∷ trace) → LastReap c r trace
 explained_reap c past r trace h =
     let a = all_explained c past (Seen.Reaped r ∷ trace) h in
     last_reap c past r trace a.0 a.1
+
+pub explained_publish : (c : ConfigNumbers) (past : Past) (p : PublishLine) (trace : List Seen)
+    → Explains no_options c past (Seen.Published p ∷ trace) → LastPublish c p trace
+explained_publish c past p trace h =
+    let a = all_explained c past (Seen.Published p ∷ trace) h in
+    last_publish c past p trace a.0 a.1
 
 -- the entry that it answers
 abbrev pub answers : (c : ConfigNumbers) (r : ReapedLine) (trace : List Seen) (l : LastReap c r trace)

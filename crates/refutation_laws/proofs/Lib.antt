@@ -12,3 +12,4 @@ pub mod NamedEffects
 pub mod ToldTickets
 pub mod Answered
 pub mod LineOrders
+pub mod BadLines

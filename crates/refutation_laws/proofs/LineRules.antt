@@ -1,7 +1,7 @@
 -- No legal history's newest line breaks a rule of lines.
-use Rattle.std.proofs.Common.{Bool, Some, is_none, subst, true, eqb, eqb-true, nat_lt, refl, ap₂, ◌||◌, ◌≡◌, ◌%◌, ◌*◌, ◌+◌, ◌/◌, ◌∙◌, ◌≤◌, List, ap, arith, eq-eqb, false, not, ℕ, sym}
+use Rattle.std.proofs.Common.{length, ◌-◌, Bool, Some, is_none, subst, true, eqb, eqb-true, nat_lt, refl, ap₂, ◌||◌, ◌≡◌, ◌%◌, ◌*◌, ◌+◌, ◌/◌, ◌∙◌, ◌≤◌, List, ap, arith, eq-eqb, false, not, ℕ, sym}
 use Rattle.nvme_model.specs.Completions.{phase, reaped_count}
-use Rattle.std.proofs.lemmas.Bool.{le-ltb}
+use Rattle.std.proofs.lemmas.Bool.{le-ltb, ltb-false}
 use Rattle.nvme_model.specs.Config.{completion_queue, config_fault, is_accepted}
 use Rattle.nvme_model.specs.Refusals.{no_queue}
 use Rattle.nvme_model.proofs.Accepted.{accepted}
@@ -9,15 +9,16 @@ use Rattle.nvme_model.specs.Tickets.{ticket}
 use Rattle.nvme_model.specs.EntryBytes.{cqe_bytes, cqe_fields}
 use Rattle.nvme_model.specs.declared.config.ConfigNumbers.{ConfigNumbers}
 use Rattle.nvme_model.specs.declared.entry.Entry.{Entry}
+use Rattle.nvme_model.specs.declared.entry.PublishLine.{PublishLine}
 use Rattle.nvme_model.specs.declared.status.Status.{Status}
 use Rattle.nvme_model.proofs.Numbers.{posts_are_numbered}
 use Rattle.nvme_model.proofs.Rules.{follows}
 use Rattle.host_laws.proofs.Statuses.{phase_small}
 use Rattle.trace.specs.declared.seen.ReapedLine.{ReapedLine}
 use Rattle.trace.specs.declared.seen.Seen.{Seen}
-use Rattle.refutation_laws.specs.LineRules.{has_wrong_phase, names_no_entry, names_wrong_queue, sets_unused_bits}
+use Rattle.refutation_laws.specs.LineRules.{has_wrong_batch, has_wrong_phase, names_no_entry, names_wrong_queue, sets_unused_bits}
 use Rattle.refutation_laws.specs.Lines.{answered, is_tidy, reaped_in}
-use Rattle.refutation_laws.proofs.LastLine.{LastReap, answers, reap_of}
+use Rattle.refutation_laws.proofs.LastLine.{LastPublish, LastReap, answers, reap_of}
 use Rattle.refutation_laws.proofs.Lines.{answers_one, none_is, reaped_seen}
 
 pub bits_unset : (c : ConfigNumbers) (r : ReapedLine) (trace : List Seen) → LastReap c r trace
@@ -71,6 +72,15 @@ queue_right c r trace a l =
     let x = answers c r trace l in
     ap (λ (q : ℕ). no_queue c q || not (eqb (completion_queue c q) r.queue)) (names_its_queue c r trace a l)
     ∙ none_of _ _ (is_queue c x.queue x.some x.few) (ap not (eq-eqb (completion_queue c x.queue) r.queue x.own))
+
+-- ---- a Publish
+
+pub batch_right : (c : ConfigNumbers) (p : PublishLine) (trace : List Seen) → LastPublish c p trace
+    → has_wrong_batch c p ≡ false
+batch_right c p trace l =
+    let a = (follows c l.before (Entry.Publish p) l.legal).allowed in
+    none_of _ _ (none_of _ _ a.0 a.1.0)
+    (le-ltb (c.sq_size - 1) (length p.batch) (omega (arith, ltb-false _ _ a.1.1.0)))
 
 -- ---- the entry
 

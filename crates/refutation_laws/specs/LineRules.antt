@@ -1,18 +1,19 @@
 -- What the newest line of a trace can't be in any history that explains it, whatever the controller did unseen.
 use Rattle.std.specs.Prelude.{Bool, List, None, Option, Some, [], if◌then◌else◌, is_none, length, max, nat_lt, not, slice_get, suc}
 use Rattle.std.specs.Prelude.{ℕ, false}
-use Rattle.std.specs.Prelude.{◌%◌, ◌+◌, ◌-◌, ◌==◌, ◌||◌, ◌∷◌}
+use Rattle.std.specs.Prelude.{◌%◌, ◌+◌, ◌&&◌, ◌-◌, ◌==◌, ◌||◌, ◌∷◌}
 use Rattle.nvme_model.specs.Completions.{phase}
 use Rattle.nvme_model.specs.Config.{completion_queue}
 use Rattle.nvme_model.specs.EntryBytes.{cqe_fields}
 use Rattle.nvme_model.specs.Refusals.{no_queue}
 use Rattle.nvme_model.specs.declared.config.ConfigNumbers.{ConfigNumbers}
+use Rattle.nvme_model.specs.declared.entry.PublishLine.{PublishLine}
 use Rattle.nvme_model.specs.declared.status.Status.{Status}
 use Rattle.nvme_model.specs.declared.submission.Submission.{Submission}
 use Rattle.host_laws.specs.Calls.{cqe_status, is_clean}
 use Rattle.trace.specs.declared.seen.ReapedLine.{ReapedLine}
 use Rattle.trace.specs.declared.seen.Seen.{Seen}
-use Rattle.refutation_laws.specs.Lines.{answered, published_in, reaped_in}
+use Rattle.refutation_laws.specs.Lines.{answered, is_tidy, published_in, reaped_in}
 use Rattle.refutation_laws.specs.MayAnswer.{may_answer}
 
 -- The completion sets a bit that this profile leaves zero: in DW0 or DW1, the Command Retry Delay, More or Do Not Retry.
@@ -74,3 +75,17 @@ number_may_not c trace q (Some j) s = may_not_answer c trace q j (slice_get (pub
 abbrev pub has_wrong_status : ConfigNumbers → List Seen → ReapedLine → Bool
 has_wrong_status c trace r =
     number_may_not c trace (cqe_fields r.cqe).sqid (answered trace r.cqe) (cqe_status r.cqe)
+
+-- A Publish that no controller takes: to a submission queue that isn't there, of no entry, or of more than the queue's
+-- slots hold.
+abbrev pub has_wrong_batch : ConfigNumbers → PublishLine → Bool
+has_wrong_batch c p = no_queue c p.queue || (length p.batch == 0) || nat_lt (c.sq_size - 1) (length p.batch)
+
+-- The newest line of a trace is bad. The last three rules of a completion are asked behind lines that publish no CID
+-- again while it waits.
+abbrev pub is_bad_line : ConfigNumbers → List Seen → Bool
+is_bad_line c [] = false
+is_bad_line c (Seen.Published p ∷ trace) = has_wrong_batch c p
+is_bad_line c (Seen.Reaped r ∷ trace) =
+    sets_unused_bits r || has_wrong_phase c trace r || names_wrong_queue c r
+    || (is_tidy trace && (names_no_entry trace r || has_wrong_head c trace r || has_wrong_status c trace r))

@@ -7,14 +7,15 @@ ghost use Rattle.nvme_model.specs.History.{Past};
 ghost use Rattle.nvme_model.specs.Legal.{IsLegal};
 ghost use Rattle.nvme_model.specs.Queues.{published_entries};
 ghost use Rattle.nvme_model.specs.declared.config.ConfigNumbers.{ConfigNumbers};
+ghost use Rattle.nvme_model.specs.declared.entry.PublishLine.{PublishLine};
 ghost use Rattle.nvme_model.specs.declared.entry.PostLine.{PostLine};
 ghost use Rattle.host_laws.specs.Calls.{IsEntryWaiting, reaped_post};
 ghost use Rattle.trace.specs.Observed.{Explains, observed};
 ghost use Rattle.trace.specs.Options.{no_options};
 ghost use Rattle.trace.specs.declared.seen.ReapedLine.{ReapedLine};
 ghost use Rattle.trace.specs.declared.seen.Seen.{Seen};
-ghost use Rattle.refutation_laws.specs.LineRules.{has_wrong_head, has_wrong_phase, has_wrong_status, names_no_entry, names_wrong_queue};
-ghost use Rattle.refutation_laws.specs.LineRules.{sets_unused_bits};
+ghost use Rattle.refutation_laws.specs.LineRules.{has_wrong_head, has_wrong_phase, has_wrong_status, is_bad_line, names_no_entry};
+ghost use Rattle.refutation_laws.specs.LineRules.{has_wrong_batch, names_wrong_queue, sets_unused_bits};
 ghost use Rattle.refutation_laws.specs.Lines.{answer_in, is_tidy, published_in, reaped_in, waiting_in};
 
 /// What hosts saw of a legal history tells which entries are published and how many completions are reaped. Where no
@@ -71,4 +72,16 @@ pub fn no_completion_has_a_wrong_head()
 pub fn no_completion_has_a_wrong_status()
     ensures { (c : ConfigNumbers) (past : Past) (r : ReapedLine) (trace : List Seen) → is_tidy trace ≡ true →
         Explains no_options c past (Seen.Reaped r ∷ trace) → has_wrong_status c trace r ≡ false }
+{}
+
+/// No Publish that no controller takes is the newest line.
+pub fn no_publish_has_a_wrong_batch()
+    ensures { (c : ConfigNumbers) (past : Past) (p : PublishLine) (trace : List Seen) →
+        Explains no_options c past (Seen.Published p ∷ trace) → has_wrong_batch c p ≡ false }
+{}
+
+/// In an accepted configuration no history explains a trace that has a bad line, whatever follows it.
+pub fn no_history_explains_a_bad_line()
+    ensures { (c : ConfigNumbers) (past : Past) (more trace : List Seen) → is_accepted c ≡ true →
+        is_bad_line c trace ≡ true → Explains no_options c past (more ++ trace) → ⊥ }
 {}
