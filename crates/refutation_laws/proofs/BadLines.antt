@@ -1,5 +1,5 @@
 -- No history explains a trace with a bad line.
-use Rattle.std.proofs.Common.{Bool, List, [], false, refl, subst, sym, true, ◌&&◌, ◌++◌, ◌∙◌, ◌∷◌, ◌≡◌, ◌||◌}
+use Rattle.std.proofs.Common.{Bool, List, [], false, refl, subst, sym, true, ◌&&◌, ◌++◌, ◌∙◌, ◌∷◌, ◌≡◌}
 use Rattle.nvme_model.specs.Config.{is_accepted}
 use Rattle.nvme_model.specs.History.{Past}
 use Rattle.nvme_model.specs.Legal.{IsLegal}
@@ -10,23 +10,23 @@ use Rattle.trace.specs.Options.{no_options}
 use Rattle.trace.specs.declared.seen.ReapedLine.{ReapedLine}
 use Rattle.trace.specs.declared.seen.Seen.{Seen}
 use Rattle.trace.proofs.Beginnings.{all_explained}
-use Rattle.refutation_laws.specs.LineRules.{has_wrong_head, has_wrong_status, is_bad_line, names_no_entry}
+use Rattle.refutation_laws.specs.LineRules.{breaks_entry_rules, is_bad_line}
 use Rattle.refutation_laws.specs.Lines.{is_tidy}
 use Rattle.refutation_laws.proofs.Answering.{status_right}
 use Rattle.refutation_laws.proofs.LastLine.{LastReap, last_publish, last_reap}
 use Rattle.refutation_laws.proofs.LeastFetched.{head_right}
 use Rattle.refutation_laws.proofs.LineOrders.{beginning}
 use Rattle.refutation_laws.proofs.LineRules.{batch_right, bits_unset, entry_right, none_of, phase_right, queue_right}
+use Rattle.refutation_laws.proofs.Seconds.{second_right}
 
 tidy_rules : (c : ConfigNumbers) (r : ReapedLine) (trace : List Seen) → is_accepted c ≡ true → LastReap c r trace
-    → (is_tidy trace && (names_no_entry trace r || has_wrong_head c trace r || has_wrong_status c trace r)) ≡ false
+    → (is_tidy trace && breaks_entry_rules c trace r) ≡ false
 tidy_rules c r trace a l = go (is_tidy trace) refl
   where
-    go : (b : Bool) → is_tidy trace ≡ b
-        → (b && (names_no_entry trace r || has_wrong_head c trace r || has_wrong_status c trace r)) ≡ false
+    go : (b : Bool) → is_tidy trace ≡ b → (b && breaks_entry_rules c trace r) ≡ false
     go false d = refl
-    go true d = none_of _ _ (none_of _ _ (entry_right c r trace d l) (head_right c r trace a d l))
-        (status_right c r trace d l)
+    go true d = none_of _ _ (none_of _ _ (none_of _ _ (entry_right c r trace d l) (head_right c r trace a d l))
+        (status_right c r trace d l)) (second_right c r trace d l)
 
 pub line_right : (c : ConfigNumbers) (past : Past) (trace : List Seen) → is_accepted c ≡ true → IsLegal c past
     → observed c past ≡ trace → is_bad_line c trace ≡ false

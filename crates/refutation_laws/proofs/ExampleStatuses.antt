@@ -4,7 +4,7 @@ use Rattle.nvme_model.specs.Examples.{cqe, default, one, pair_on_3, submit}
 use Rattle.nvme_model.specs.declared.submission.Submission.{Submission}
 use Rattle.trace.specs.declared.seen.ReapedLine.{ReapedLine}
 use Rattle.trace.specs.declared.seen.Seen.{Seen}
-use Rattle.refutation_laws.specs.LineRules.{has_wrong_status}
+use Rattle.refutation_laws.specs.LineRules.{has_wrong_second, has_wrong_status}
 
 -- a Publish of these entries to queue 1
 abbrev published : List Submission → Seen
@@ -75,3 +75,16 @@ lone_first = refl
 
 pub matched_first : has_wrong_status default pair (answer 7 1 0 []) ≡ false
 matched_first = refl
+
+-- the first succeeded, or failed
+pub second_succeeds : has_wrong_second (Seen.Reaped (answer 7 1 0 []) ∷ pair) (answer 8 1 0 []) ≡ false
+second_succeeds = refl
+
+pub second_alone_aborted : has_wrong_second (Seen.Reaped (answer 7 1 0 []) ∷ pair) (answer 8 0x13 0 []) ≡ true
+second_alone_aborted = refl
+
+pub both_fail : has_wrong_second (Seen.Reaped (answer 7 0x0b 5 []) ∷ pair) (answer 8 0x13 0 []) ≡ false
+both_fail = refl
+
+pub second_alone_succeeds : has_wrong_second (Seen.Reaped (answer 7 0x0b 5 []) ∷ pair) (answer 8 1 0 []) ≡ true
+second_alone_succeeds = refl

@@ -6,6 +6,7 @@ pub mod LeastFetched
 pub mod TableStatus
 pub mod Fetching
 pub mod Answering
+pub mod Seconds
 pub mod ExampleLines
 pub mod ExampleStatuses
 pub mod NamedEffects

@@ -31,7 +31,7 @@ use Rattle.refutation_laws.specs.MayAnswer.{answers_first, answers_second, verdi
 
 -- ---- what a ticket owes, by its verdict
 
-same_itself : (s : Status) → same_status s s ≡ true
+pub same_itself : (s : Status) → same_status s s ≡ true
 same_itself s = and_from _ _ (eq-eqb s.sct s.sct refl) (eq-eqb s.sc s.sc refl)
 
 same_if : (s x : Status) → s ≡ x → same_status x s ≡ true

@@ -1,11 +1,12 @@
 -- What the newest line of a trace can't be in any history that explains it, whatever the controller did unseen.
-use Rattle.std.specs.Prelude.{Bool, List, None, Option, Some, [], if◌then◌else◌, is_none, length, max, nat_lt, not, slice_get, suc}
+use Rattle.std.specs.Prelude.{Bool, List, None, Option, Some, [], if◌then◌else◌, is_none, length, max, nat_lt, not, slice_get, suc, zero}
 use Rattle.std.specs.Prelude.{ℕ, false}
 use Rattle.std.specs.Prelude.{◌%◌, ◌+◌, ◌&&◌, ◌-◌, ◌==◌, ◌||◌, ◌∷◌}
 use Rattle.nvme_model.specs.Completions.{phase}
 use Rattle.nvme_model.specs.Config.{completion_queue}
-use Rattle.nvme_model.specs.EntryBytes.{cqe_fields}
+use Rattle.nvme_model.specs.EntryBytes.{cqe_fields, sqe_fields}
 use Rattle.nvme_model.specs.Refusals.{no_queue}
+use Rattle.nvme_model.specs.Statuses.{compare_failure, failed_fused, is_success, same_status}
 use Rattle.nvme_model.specs.declared.config.ConfigNumbers.{ConfigNumbers}
 use Rattle.nvme_model.specs.declared.entry.PublishLine.{PublishLine}
 use Rattle.nvme_model.specs.declared.status.Status.{Status}
@@ -13,7 +14,7 @@ use Rattle.nvme_model.specs.declared.submission.Submission.{Submission}
 use Rattle.host_laws.specs.Calls.{cqe_status, is_clean}
 use Rattle.trace.specs.declared.seen.ReapedLine.{ReapedLine}
 use Rattle.trace.specs.declared.seen.Seen.{Seen}
-use Rattle.refutation_laws.specs.Lines.{answered, is_tidy, published_in, reaped_in}
+use Rattle.refutation_laws.specs.Lines.{answer_in, answered, is_tidy, published_in, reaped_in}
 use Rattle.refutation_laws.specs.MayAnswer.{may_answer}
 
 -- The completion sets a bit that this profile leaves zero: in DW0 or DW1, the Command Retry Delay, More or Do Not Retry.
@@ -76,16 +77,52 @@ abbrev pub has_wrong_status : ConfigNumbers → List Seen → ReapedLine → Boo
 has_wrong_status c trace r =
     number_may_not c trace (cqe_fields r.cqe).sqid (answered trace r.cqe) (cqe_status r.cqe)
 
+-- The first command of a pair was answered so, and its second can't be answered so: both succeed, or the second is
+-- aborted where the first has Compare Failure.
+abbrev pub answers_apart : Status → Status → Bool
+answers_apart first s =
+    (is_success first && not (is_success s))
+    || (same_status first compare_failure && not (same_status s failed_fused))
+
+-- The same, of the line that answers the first, where there is one.
+abbrev pub is_apart_from : Option ReapedLine → Status → Bool
+is_apart_from None s = false
+is_apart_from (Some r) s = answers_apart (cqe_status r.cqe) s
+
+-- An entry has this FUSE, where there is one.
+abbrev pub has_fuse : ℕ → Option Submission → Bool
+has_fuse f None = false
+has_fuse f (Some s) = (sqe_fields s.entry).fuse == f
+
+-- This entry of submission queue q and the one before it are the second and the first of a pair, and it can't be
+-- answered so behind the first's answer.
+abbrev pub is_second_apart : List Seen → ℕ → Option ℕ → Status → Bool
+is_second_apart trace q None s = false
+is_second_apart trace q (Some zero) s = false
+is_second_apart trace q (Some (suc i)) s =
+    has_fuse 1 (slice_get (published_in trace q) i) && has_fuse 2 (slice_get (published_in trace q) (suc i))
+    && is_apart_from (answer_in trace q i) s
+
+-- It answers the second command of a pair, and its status doesn't go with what the first was answered.
+abbrev pub has_wrong_second : List Seen → ReapedLine → Bool
+has_wrong_second trace r =
+    is_second_apart trace (cqe_fields r.cqe).sqid (answered trace r.cqe) (cqe_status r.cqe)
+
 -- A Publish that no controller takes: to a submission queue that isn't there, of no entry, or of more than the queue's
 -- slots hold.
 abbrev pub has_wrong_batch : ConfigNumbers → PublishLine → Bool
 has_wrong_batch c p = no_queue c p.queue || (length p.batch == 0) || nat_lt (c.sq_size - 1) (length p.batch)
 
--- The newest line of a trace is bad. The last three rules of a completion are asked behind lines that publish no CID
--- again while it waits.
+-- It breaks one of the rules that ask which entry it answers.
+abbrev pub breaks_entry_rules : ConfigNumbers → List Seen → ReapedLine → Bool
+breaks_entry_rules c trace r =
+    names_no_entry trace r || has_wrong_head c trace r || has_wrong_status c trace r || has_wrong_second trace r
+
+-- The newest line of a trace is bad. Which entry a completion answers is asked behind lines that publish no CID again
+-- while it waits.
 abbrev pub is_bad_line : ConfigNumbers → List Seen → Bool
 is_bad_line c [] = false
 is_bad_line c (Seen.Published p ∷ trace) = has_wrong_batch c p
 is_bad_line c (Seen.Reaped r ∷ trace) =
     sets_unused_bits r || has_wrong_phase c trace r || names_wrong_queue c r
-    || (is_tidy trace && (names_no_entry trace r || has_wrong_head c trace r || has_wrong_status c trace r))
+    || (is_tidy trace && breaks_entry_rules c trace r)

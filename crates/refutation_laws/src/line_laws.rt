@@ -15,7 +15,7 @@ ghost use Rattle.trace.specs.Options.{no_options};
 ghost use Rattle.trace.specs.declared.seen.ReapedLine.{ReapedLine};
 ghost use Rattle.trace.specs.declared.seen.Seen.{Seen};
 ghost use Rattle.refutation_laws.specs.LineRules.{has_wrong_head, has_wrong_phase, has_wrong_status, is_bad_line, names_no_entry};
-ghost use Rattle.refutation_laws.specs.LineRules.{has_wrong_batch, names_wrong_queue, sets_unused_bits};
+ghost use Rattle.refutation_laws.specs.LineRules.{has_wrong_batch, has_wrong_second, names_wrong_queue, sets_unused_bits};
 ghost use Rattle.refutation_laws.specs.Lines.{answer_in, is_tidy, published_in, reaped_in, waiting_in};
 
 /// What hosts saw of a legal history tells which entries are published and how many completions are reaped. Where no
@@ -72,6 +72,12 @@ pub fn no_completion_has_a_wrong_head()
 pub fn no_completion_has_a_wrong_status()
     ensures { (c : ConfigNumbers) (past : Past) (r : ReapedLine) (trace : List Seen) → is_tidy trace ≡ true →
         Explains no_options c past (Seen.Reaped r ∷ trace) → has_wrong_status c trace r ≡ false }
+{}
+
+/// Where it answers the second command of a pair, its status goes with what the first was answered.
+pub fn no_second_is_answered_apart()
+    ensures { (c : ConfigNumbers) (past : Past) (r : ReapedLine) (trace : List Seen) → is_tidy trace ≡ true →
+        Explains no_options c past (Seen.Reaped r ∷ trace) → has_wrong_second trace r ≡ false }
 {}
 
 /// No Publish that no controller takes is the newest line.
