@@ -1,6 +1,6 @@
 -- A completion's status is one that its entry may be answered.
 use Rattle.nvme_model.specs.Tickets
-use Rattle.std.proofs.Common.{◌≡◌, ℕ, zero, suc, ◌≤◌, true, false, List, [], ◌∷◌, Option, None}
+use Rattle.std.proofs.Common.{◌≡◌, ℕ, zero, suc, true, false, List, ◌∷◌, Option}
 use Rattle.std.proofs.Common.{Some, slice_get, not, sym, ap, ap₂, ◌∙◌, subst, subst₂, inl, inr, arith}
 use Rattle.std.proofs.lemmas.Bool.{and_from, or_left, or_right}
 use Rattle.nvme_model.specs.Completions.{reaped_count}
@@ -24,7 +24,6 @@ use Rattle.host_laws.proofs.Calls.{First, PostOf, Second, Seen, seen, which}
 use Rattle.host_laws.proofs.Elements.{same_some}
 use Rattle.host_laws.proofs.PostedAnswers.{PostedAt, answer_at}
 use Rattle.host_laws.proofs.Statuses.{post_is}
-use Rattle.host_laws.proofs.Verdicts.{taken_few}
 use Rattle.trace.specs.Observed.{observed}
 use Rattle.trace.specs.declared.seen.ReapedLine.{ReapedLine}
 use Rattle.trace.specs.declared.seen.Seen as seen_lines
@@ -36,6 +35,7 @@ use Rattle.refutation_laws.proofs.Fetching.{FetchOf, fetch_of}
 use Rattle.refutation_laws.proofs.LastLine.{LastReap, answers, reap_of, reaped_answer}
 use Rattle.refutation_laws.proofs.LineRules.{names_its_entry}
 use Rattle.refutation_laws.proofs.Lines.{answers_one, published_seen}
+use Rattle.refutation_laws.proofs.WholePairs.{alone_takes_one}
 use Rattle.refutation_laws.proofs.TableStatus.{owes_first, owes_second}
 
 -- ---- the Post of an entry
@@ -59,13 +59,10 @@ posted_of c past r x h =
 
 -- ---- its status
 
-alone_takes_one : (c : ConfigNumbers) (a : Submission) → taken_entries (verdict_at c a None) ≤ 1
-alone_takes_one c a = taken_few c [] a []
-
 first_allowed : (c : ConfigNumbers) (past : Past) (q j : ℕ) (p : PostLine) (s : Submission) → IsLegal c past
     → (f : PostOf c past q j p) → slice_get (published_entries past q) j ≡ Some s
     → (n : Seen past f.at.before p.ticket q) → (x : First f.at.before p.ticket j s)
-    → FetchOf c past p.ticket q j → may_answer_first c (observed c past) q j s (cqe_status p.cqe) ≡ true
+    → FetchOf c past (Tickets.ticket past p.ticket).verdict q j → may_answer_first c (observed c past) q j s (cqe_status p.cqe) ≡ true
 first_allowed c past q j p s h f e n x g =
     let before = f.at.before in
     let k = Tickets.ticket before p.ticket in
@@ -94,7 +91,7 @@ first_allowed c past q j p s h f e n x g =
 second_allowed : (c : ConfigNumbers) (past : Past) (q i : ℕ) (p : PostLine) (s : Submission) → IsLegal c past
     → (f : PostOf c past q (suc i) p) → slice_get (published_entries past q) (suc i) ≡ Some s
     → (n : Seen past f.at.before p.ticket q) → (x : Second f.at.before p.ticket (suc i) s)
-    → FetchOf c past p.ticket q i → may_answer_second c (observed c past) q (suc i) s (cqe_status p.cqe) ≡ true
+    → FetchOf c past (Tickets.ticket past p.ticket).verdict q i → may_answer_second c (observed c past) q (suc i) s (cqe_status p.cqe) ≡ true
 second_allowed c past q i p s h f e n x g =
     let before = f.at.before in
     let k = Tickets.ticket before p.ticket in

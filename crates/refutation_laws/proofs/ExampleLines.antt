@@ -1,6 +1,6 @@
 -- Lines that the rules refute, and their neighbours that they don't.
 use Rattle.std.specs.Prelude.{List, [], false, refl, replicate, true, ℕ, ◌∷◌, ◌≡◌}
-use Rattle.nvme_model.specs.Examples.{cqe, default, submit}
+use Rattle.nvme_model.specs.Examples.{cqe, default, one, pair_on_3, submit}
 use Rattle.nvme_model.specs.declared.entry.PublishLine.{PublishLine}
 use Rattle.nvme_model.specs.declared.submission.Submission.{Submission}
 use Rattle.trace.specs.declared.seen.ReapedLine.{ReapedLine}
@@ -111,6 +111,24 @@ head_goes_back = refl
 
 pub head_stays : has_wrong_head default after_sixth (flushed 1 2 5 0) ≡ false
 head_stays = refl
+
+-- a pair that one line publishes is fetched whole, one of two lines needn't be
+abbrev pair_alone : List Seen
+pair_alone = Seen.Published (record { queue = 1; batch = pair_on_3 7 8 0 0xa1 }) ∷ []
+
+pub head_parts_pair : has_wrong_head default pair_alone (flushed 1 1 7 1) ≡ true
+head_parts_pair = refl
+
+pub head_of_pair : has_wrong_head default pair_alone (flushed 1 2 7 1) ≡ false
+head_of_pair = refl
+
+abbrev pair_of_two : List Seen
+pair_of_two =
+    Seen.Published (record { queue = 1; batch = submit 1 2 8 3 0 (one 0xa1) ∷ [] })
+    ∷ Seen.Published (record { queue = 1; batch = submit 5 1 7 3 0 (one 0) ∷ [] }) ∷ []
+
+pub head_between : has_wrong_head default pair_of_two (flushed 1 1 7 1) ≡ false
+head_between = refl
 
 -- ---- a Publish
 

@@ -1,6 +1,6 @@
 -- What the Fetch of a ticket found at the front of its queue, by a tidy trace.
 use Rattle.nvme_model.specs.Tickets
-use Rattle.std.proofs.Common.{◌≡◌, ℕ, suc, ◌<◌, ◌≤◌, Bool, true, false, cond, List, [], ◌∷◌, ◌++◌, ◌⊎◌}
+use Rattle.std.proofs.Common.{eqb-true, ◌+◌, ◌≡◌, ℕ, suc, ◌<◌, ◌≤◌, Bool, true, false, cond, List, [], ◌∷◌, ◌++◌, ◌⊎◌}
 use Rattle.std.proofs.Common.{Option, None, Some, length, map, drop, slice_get, nat_le, refl, sym, ap, ◌∙◌, subst, inl}
 use Rattle.std.proofs.Common.{inr, arith, eqb, length-drop, length-append}
 use Rattle.std.proofs.lemmas.Bool.{cases_lt, cond-true, eqb-false, le-leb, lt-leb}
@@ -10,10 +10,11 @@ use Rattle.nvme_model.specs.Legal.{IsLegal}
 use Rattle.nvme_model.specs.Queues.{fetched_count, published_entries, waiting}
 use Rattle.nvme_model.specs.Slots.{fetched_before}
 use Rattle.nvme_model.specs.Tickets.{Ticket, cids_in_use, tickets}
-use Rattle.nvme_model.specs.Verdict.{is_in, item_of, verdict_of}
+use Rattle.nvme_model.specs.Verdict.{is_in, item_of, taken_entries, verdict_of}
 use Rattle.nvme_model.specs.declared.config.ConfigNumbers.{ConfigNumbers}
 use Rattle.nvme_model.specs.declared.entry.Entry.{Entry}
 use Rattle.nvme_model.specs.declared.entry.FetchLine.{FetchLine}
+use Rattle.nvme_model.specs.declared.status.Verdict.{Verdict}
 use Rattle.nvme_model.specs.declared.submission.Submission.{Submission}
 use Rattle.nvme_model.proofs.Beginnings.{earlier}
 use Rattle.nvme_model.proofs.Rules.{follows}
@@ -61,13 +62,13 @@ not_together more trace q j e = lt-leb _ _ (ends_there more trace q j e)
 
 -- ---- the front of the queue
 
--- where the Fetch of a ticket found these, from number n on: the second is what is published there now, or none was and
--- it came by a later line
-pub record FetchOf (c : ConfigNumbers) (past : Past) (t q n : ℕ) : Type 0 where
+-- a Fetch with this verdict found these, from number n on: the second is what is published there now, or none was and it
+-- came by a later line
+pub record FetchOf (c : ConfigNumbers) (past : Past) (v : Verdict) (q n : ℕ) : Type 0 where
   pub first : Submission
   pub next : Option Submission
   pub there : slice_get (published_entries past q) n ≡ Some first
-  pub verdict : (Tickets.ticket past t).verdict ≡ verdict_at c first next
+  pub verdict : v ≡ verdict_at c first next
   pub behind : (next ≡ slice_get (published_entries past q) (suc n))
       ⊎ ((next ≡ None) × (are_together (observed c past) q n ≡ false))
 
@@ -79,11 +80,10 @@ distinct c past q h d = λ cid i j x y.
     (finds_waiting c past h d q cid j y)
 
 -- what a Fetch found, where the history goes on behind it
-found : (c : ConfigNumbers) (past later before : Past) (f : FetchLine) (q n t : ℕ)
+pub found : (c : ConfigNumbers) (past later before : Past) (f : FetchLine) (q n : ℕ)
     → past ≡ later ++ (Entry.Fetch f ∷ before) → IsLegal c past → is_tidy (observed c past) ≡ true → f.queue ≡ q
-    → fetched_count before q ≡ n → (Tickets.ticket past t).verdict ≡ f.verdict → FetchOf c past t q n
-found c past later before f q n t is h d fq count v =
-    by_waiting (drop n (published_entries before q)) refl
+    → fetched_count before q ≡ n → FetchOf c past f.verdict q n
+found c past later before f q n is h d fq count = by_waiting (drop n (published_entries before q)) refl
   where
     whole : IsLegal c (later ++ (Entry.Fetch f ∷ before))
     whole = subst (λ (x : Past). IsLegal c x) is h
@@ -130,7 +130,7 @@ found c past later before f q n t is h d fq count v =
         subst (λ (x : Past). slice_get (published_entries x q) i ≡ Some s) (sym is)
         (published_later later (Entry.Fetch f ∷ before) q i s e)
 
-    by_waiting : (w : List Submission) → drop n (published_entries before q) ≡ w → FetchOf c past t q n
+    by_waiting : (w : List Submission) → drop n (published_entries before q) ≡ w → FetchOf c past f.verdict q n
     by_waiting [] e =
         absurd (omega (arith, some, count, length-drop n (published_entries before q), ap (λ (x : List Submission). length x) e))
     by_waiting (a ∷ []) e =
@@ -148,7 +148,7 @@ found c past later before f q n t is h d fq count v =
           first = a;
           next = None;
           there = now n a one;
-          verdict = v ∙ (says (a ∷ []) e ∙ free_verdict c (cids_in_use before q) a [] (free n a (omega arith) one)
+          verdict = (says (a ∷ []) e ∙ free_verdict c (cids_in_use before q) a [] (free n a (omega arith) one)
               (λ b x. absurd (let y : None ≡ Some b = x in cc)));
           behind = inr (
             refl,
@@ -163,7 +163,7 @@ found c past later before f q n t is h d fq count v =
           first = a;
           next = Some b;
           there = now n a one;
-          verdict = v ∙ (says (a ∷ b ∷ rest) e
+          verdict = (says (a ∷ b ∷ rest) e
               ∙ free_verdict c (cids_in_use before q) a (b ∷ rest) (free n a (omega arith) one)
               (λ x y. subst (λ (z : Submission). is_in (cid_of z) (cids_in_use before q) ≡ false)
               (same_some b x (Some b) refl y) (free (suc n) b (omega arith) two)));
@@ -171,9 +171,53 @@ found c past later before f q n t is h d fq count v =
         }
 
 pub fetch_of : (c : ConfigNumbers) (past : Past) (t q n : ℕ) → IsLegal c past → is_tidy (observed c past) ≡ true
-    → 1 ≤ t → t ≤ tickets past → (Tickets.ticket past t).queue ≡ q → fetched_before past t ≡ n → FetchOf c past t q n
+    → 1 ≤ t → t ≤ tickets past → (Tickets.ticket past t).queue ≡ q → fetched_before past t ≡ n
+    → FetchOf c past (Tickets.ticket past t).verdict q n
 fetch_of c past t q n h d some known queue number =
     let f = fetched_at c past t h some known in
     let fq : f.fetch.queue ≡ q = ap (λ (k : Ticket). k.queue) (sym f.ticket) ∙ queue in
-    found c past f.later f.before f.fetch q n t f.is h d fq
-    (ap (fetched_count f.before) (sym fq) ∙ (sym f.number ∙ number)) (ap (λ (k : Ticket). k.verdict) f.ticket)
+    subst (λ (v : Verdict). FetchOf c past v q n) (ap (λ (k : Ticket). k.verdict) (sym f.ticket))
+    (found c past f.later f.before f.fetch q n f.is h d fq
+    (ap (fetched_count f.before) (sym fq) ∙ (sym f.number ∙ number)))
+
+-- ---- the newest Fetch of a queue
+
+pub record NewestFetch (past : Past) (q n : ℕ) : Type 0 where
+  pub later : Past
+  pub fetch : FetchLine
+  pub before : Past
+  pub is : past ≡ later ++ (Entry.Fetch fetch ∷ before)
+  pub queue : fetch.queue ≡ q
+  pub count : fetched_count before q + taken_entries fetch.verdict ≡ n
+
+fetch_on : (e : Entry) (past : Past) (q n : ℕ) → NewestFetch past q n → NewestFetch (e ∷ past) q n
+fetch_on e past q n x =
+    record {
+      later = e ∷ x.later;
+      fetch = x.fetch;
+      before = x.before;
+      is = ap (λ (p : Past). e ∷ p) x.is;
+      queue = x.queue;
+      count = x.count;
+    }
+
+pub newest_fetch : (past : Past) (q i : ℕ) → fetched_count past q ≡ suc i → NewestFetch past q (suc i)
+newest_fetch [] q i e = absurd (omega (arith, e))
+newest_fetch (Entry.Fetch f ∷ past) q i e = go (eqb f.queue q) refl e (newest_fetch past q i)
+  where
+    go : (b : Bool) → eqb f.queue q ≡ b → fetched_count past q + cond b (taken_entries f.verdict) 0 ≡ suc i
+        → (fetched_count past q ≡ suc i → NewestFetch past q (suc i)) → NewestFetch (Entry.Fetch f ∷ past) q (suc i)
+    go true z x ih = record {
+      later = [];
+      fetch = f;
+      before = past;
+      is = refl;
+      queue = eqb-true f.queue q z;
+      count = x;
+    }
+    go false z x ih = fetch_on (Entry.Fetch f) past q (suc i) (ih (omega (arith, x)))
+newest_fetch (Entry.Publish p ∷ past) q i e = fetch_on (Entry.Publish p) past q (suc i) (newest_fetch past q i e)
+newest_fetch (Entry.Grant p ∷ past) q i e = fetch_on (Entry.Grant p) past q (suc i) (newest_fetch past q i e)
+newest_fetch (Entry.Block p ∷ past) q i e = fetch_on (Entry.Block p) past q (suc i) (newest_fetch past q i e)
+newest_fetch (Entry.Post p ∷ past) q i e = fetch_on (Entry.Post p) past q (suc i) (newest_fetch past q i e)
+newest_fetch (Entry.Reap p ∷ past) q i e = fetch_on (Entry.Reap p) past q (suc i) (newest_fetch past q i e)

@@ -93,6 +93,10 @@ pub record HeadIs (c : ConfigNumbers) (past : Past) (h : Head) : Type 0 where
   pub says : (cqe_fields h.0.post.cqe).sqhd ≡ h.1 % c.sq_size
   pub own : h.0.number < h.1
   pub fetched : h.1 ≤ fetched_count past h.0.queue
+  pub later : Past
+  pub before : Past
+  pub is : past ≡ later ++ before
+  pub count : fetched_count before h.0.queue ≡ h.1
 
 sqhd_back : (h q cid p : ℕ) (s : Status) → h < 65536 → (cqe_fields (cqe_bytes h q cid p s)).sqhd ≡ h
 sqhd_back h q cid p s l =
@@ -117,6 +121,24 @@ posted_head c past p s h =
           (omega (arith, low, s.1));
       own = omega (arith, within, ltb-true _ _ f.in_flight, f.taken.count);
       fetched = omega arith;
+      later = Entry.Post p ∷ [];
+      before = past;
+      is = refl;
+      count = refl;
+    }
+
+-- it stays so
+head_on : (c : ConfigNumbers) (e : Entry) (past : Past) (h : Head)
+    → fetched_count past h.0.queue ≤ fetched_count (e ∷ past) h.0.queue → HeadIs c past h → HeadIs c (e ∷ past) h
+head_on c e past h more o =
+    record {
+      says = o.says;
+      own = o.own;
+      fetched = omega (arith, o.fetched, more);
+      later = e ∷ o.later;
+      before = o.before;
+      is = ap (λ (x : Past). e ∷ x) o.is;
+      count = o.count;
     }
 
 pub head_is : (c : ConfigNumbers) (past : Past) (n i : ℕ) (h : Head) → FitsHead c → IsLegal c past
@@ -126,8 +148,8 @@ head_is c (Entry.Post p ∷ past) n i h s l e =
     elim (get_cases (heads c past n)
     (cond (eqb (completion_queue c (Tickets.ticket past p.ticket).queue) n)
     ((posted_answer past p, fetched_count past (Tickets.ticket past p.ticket).queue) ∷ []) []) i h e) [
-      | inl x ↦ let o = head_is c past n i h s (follows c past (Entry.Post p) l).before x in
-          record { says = o.says; own = o.own; fetched = o.fetched }
+      | inl x ↦ head_on c (Entry.Post p) past h (omega arith)
+          (head_is c past n i h s (follows c past (Entry.Post p) l).before x)
       | inr m ↦ new (eqb (completion_queue c (Tickets.ticket past p.ticket).queue) n) m.0 m.2
     ]
   where
@@ -141,20 +163,15 @@ head_is c (Entry.Post p ∷ past) n i h s l e =
         let x : Head = (posted_answer past p, fetched_count past (Tickets.ticket past p.ticket).queue) in
         subst (λ (y : Head). HeadIs c (Entry.Post p ∷ past) y) (same_some x h (Some x) refl f) (posted_head c past p s l)
 head_is c (Entry.Fetch f ∷ past) n i h s l e =
-    let o = head_is c past n i h s (follows c past (Entry.Fetch f) l).before e in
-    record { says = o.says; own = o.own; fetched = omega (arith, o.fetched) }
+    head_on c (Entry.Fetch f) past h (omega arith) (head_is c past n i h s (follows c past (Entry.Fetch f) l).before e)
 head_is c (Entry.Publish f ∷ past) n i h s l e =
-    let o = head_is c past n i h s (follows c past (Entry.Publish f) l).before e in
-    record { says = o.says; own = o.own; fetched = o.fetched }
+    head_on c (Entry.Publish f) past h (omega arith) (head_is c past n i h s (follows c past (Entry.Publish f) l).before e)
 head_is c (Entry.Grant f ∷ past) n i h s l e =
-    let o = head_is c past n i h s (follows c past (Entry.Grant f) l).before e in
-    record { says = o.says; own = o.own; fetched = o.fetched }
+    head_on c (Entry.Grant f) past h (omega arith) (head_is c past n i h s (follows c past (Entry.Grant f) l).before e)
 head_is c (Entry.Block f ∷ past) n i h s l e =
-    let o = head_is c past n i h s (follows c past (Entry.Block f) l).before e in
-    record { says = o.says; own = o.own; fetched = o.fetched }
+    head_on c (Entry.Block f) past h (omega arith) (head_is c past n i h s (follows c past (Entry.Block f) l).before e)
 head_is c (Entry.Reap f ∷ past) n i h s l e =
-    let o = head_is c past n i h s (follows c past (Entry.Reap f) l).before e in
-    record { says = o.says; own = o.own; fetched = o.fetched }
+    head_on c (Entry.Reap f) past h (omega arith) (head_is c past n i h s (follows c past (Entry.Reap f) l).before e)
 
 -- ---- they rise
 

@@ -1,9 +1,9 @@
 -- As many entries were fetched as a trace says at least.
-use Rattle.std.proofs.Common.{◌≡◌, ℕ, suc, ◌%◌, ◌<◌, ◌≤◌, Bool, true, false, List, [], ◌∷◌}
+use Rattle.std.proofs.Common.{cond, ◌≡◌, ℕ, suc, ◌%◌, ◌<◌, ◌≤◌, Bool, true, false, List, [], ◌∷◌}
 use Rattle.std.proofs.Common.{◌⊎◌, Some, length, max, slice_get, nat_lt, refl, sym, ap, ◌∙◌, subst, inl}
 use Rattle.std.proofs.Common.{inr, arith, eqb, eqb-true, eq-eqb, not}
 use Rattle.std.proofs.Math.Nat.{max-le, mod-lt}
-use Rattle.std.proofs.lemmas.Bool.{cond-true, cond-false, le-ltb, lt-ltb}
+use Rattle.std.proofs.lemmas.Bool.{cases_lt, cond-true, cond-false, le-ltb, lt-ltb}
 use Rattle.ticket_laws.proofs.Counts.{fetched_within}
 use Rattle.nvme_model.specs.Completions.{reaped_count}
 use Rattle.nvme_model.specs.Config.{completion_queue, config_fault, is_accepted}
@@ -24,9 +24,11 @@ use Rattle.host_laws.proofs.Reaps.{reap_answers}
 use Rattle.trace.specs.Observed.{observed}
 use Rattle.trace.specs.declared.seen.ReapedLine.{ReapedLine}
 use Rattle.trace.specs.declared.seen.Seen.{Seen}
-use Rattle.refutation_laws.specs.LineRules.{count_to, has_wrong_head, least_fetched, next_at}
+use Rattle.refutation_laws.specs.LineRules.{count_to, has_wrong_head, least_fetched, next_at, next_whole}
+use Rattle.refutation_laws.specs.LineRules.{parts_pair}
 use Rattle.refutation_laws.specs.Lines.{answered, is_tidy, published_in}
 use Rattle.refutation_laws.proofs.Heads.{FitsHead, Head, head_is, head_of, heads, heads_rise, next_below}
+use Rattle.refutation_laws.proofs.WholePairs.{head_is_whole}
 use Rattle.refutation_laws.proofs.LastLine.{LastReap, reap_of, reaped_answer}
 use Rattle.refutation_laws.proofs.LineRules.{none_of}
 use Rattle.refutation_laws.proofs.Lines.{AnswersOne, answers_one, none_is, published_seen, tidy_publish}
@@ -51,6 +53,13 @@ reaped_head c past r x =
       number = ap (λ (z : PostedAnswer). z.number) h.2 ∙ y.number;
       cqe = ap (λ (z : PostedAnswer). z.post.cqe) h.2 ∙ (ap (λ (z : PostLine). z.cqe) y.post ∙ x.cqe);
     }
+
+-- SQHD says how many were fetched, modulo the slots
+head_says : (c : ConfigNumbers) (past : Past) (r : ReapLine) (x : ReapAnswers c past r) (y : HeadOf c past r x)
+    → FitsHead c → IsLegal c past → (cqe_fields r.cqe).sqhd ≡ y.head.1 % c.sq_size
+head_says c past r x y s l =
+    ap (λ (b : List ℕ). (cqe_fields b).sqhd) (sym y.cqe)
+    ∙ (head_is c past r.queue (reaped_count past r.queue) y.head s l y.at).says
 
 -- ---- the least number is right
 
@@ -84,21 +93,22 @@ reached_more c past e q f g same (inr x) = inr (record {
 })
 
 -- the completion that a Reap takes has at least so many fetched
-abbrev least_behind : ConfigNumbers → Past → ReapLine → ℕ → ℕ
-least_behind c past r q =
+abbrev least_at : ConfigNumbers → Past → ReapLine → ℕ → ℕ
+least_at c past r q =
     next_at c.sq_size (max (least_fetched c (observed c past) q) (count_to (answered (observed c past) r.cqe)))
     (cqe_fields r.cqe).sqhd
 
-reap_enough : (c : ConfigNumbers) (past : Past) (r : ReapLine) (q : ℕ) → FitsHead c → IsLegal c past
+abbrev least_behind : ConfigNumbers → Past → ReapLine → ℕ → ℕ
+least_behind c past r q = next_whole c (observed c past) q (cqe_fields r.cqe).sqhd (least_at c past r q)
+
+reap_least : (c : ConfigNumbers) (past : Past) (r : ReapLine) (q : ℕ) → FitsHead c → IsLegal c past
     → (x : ReapAnswers c past r) → AnswersOne c past r x → (y : HeadOf c past r x) → x.queue ≡ q → IsReached c past q
-    → least_behind c past r q ≤ y.head.1
-reap_enough c past r q s l x a y same ih =
+    → least_at c past r q ≤ y.head.1
+reap_least c past r q s l x a y same ih =
     let is = head_is c past r.queue (reaped_count past r.queue) y.head s l y.at in
     let own : suc x.number ≤ y.head.1 = omega (arith, is.own, y.number) in
     let number : count_to (answered (observed c past) r.cqe) ≤ y.head.1 =
     omega (arith, ap count_to a.number, own) in
-    let says : (cqe_fields r.cqe).sqhd ≡ y.head.1 % c.sq_size =
-    ap (λ (b : List ℕ). (cqe_fields b).sqhd) (sym y.cqe) ∙ is.says in
     let before : least_fetched c (observed c past) q ≤ y.head.1 = elim ih [
       | inl z ↦ omega (arith, z)
       | inr w ↦
@@ -112,8 +122,34 @@ reap_enough c past r q s l x a y same ih =
           omega (arith, w.enough, rise)
     ] in
     let low = max (least_fetched c (observed c past) q) (count_to (answered (observed c past) r.cqe)) in
-    subst (λ (h : ℕ). next_at c.sq_size low h ≤ y.head.1) (sym says)
+    subst (λ (h : ℕ). next_at c.sq_size low h ≤ y.head.1) (sym (head_says c past r x y s l))
     (next_below c.sq_size low y.head.1 s.0 (max-le before number))
+
+reap_enough : (c : ConfigNumbers) (past : Past) (r : ReapLine) (q : ℕ) → FitsHead c → IsLegal c past
+    → is_tidy (observed c past) ≡ true → (x : ReapAnswers c past r) → AnswersOne c past r x → (y : HeadOf c past r x)
+    → x.queue ≡ q → IsReached c past q → least_behind c past r q ≤ y.head.1
+reap_enough c past r q s l d x a y same ih =
+    go (parts_pair (observed c past) q (least_at c past r q)) refl (reap_least c past r q s l x a y same ih)
+  where
+    whole : parts_pair (observed c past) q y.head.1 ≡ false
+    whole =
+        subst (λ (k : ℕ). parts_pair (observed c past) k y.head.1 ≡ false) (y.queue ∙ same)
+        (head_is_whole c past r.queue (reaped_count past r.queue) y.head s l d y.at)
+
+    go : (b : Bool) → parts_pair (observed c past) q (least_at c past r q) ≡ b → least_at c past r q ≤ y.head.1
+        → cond b (next_at c.sq_size (suc (least_at c past r q)) (cqe_fields r.cqe).sqhd) (least_at c past r q)
+        ≤ y.head.1
+    go false z m = m
+    go true z m =
+        let more : suc (least_at c past r q) ≤ y.head.1 = elim (cases_lt (least_at c past r q) y.head.1) [
+          | inl k ↦ k
+          | inr k ↦
+              let here : least_at c past r q ≡ y.head.1 = omega (arith, m, k) in
+              let f : true ≡ false = sym z ∙ (ap (parts_pair (observed c past) q) here ∙ whole) in absurd cc
+        ] in
+        subst (λ (h : ℕ). next_at c.sq_size (suc (least_at c past r q)) h ≤ y.head.1)
+        (sym (head_says c past r x y s l))
+        (next_below c.sq_size (suc (least_at c past r q)) y.head.1 s.0 more)
 
 reached_reap : (c : ConfigNumbers) (past : Past) (r : ReapLine) (q : ℕ) → FitsHead c → IsLegal c (Entry.Reap r ∷ past)
     → is_tidy (observed c past) ≡ true → IsReached c past q → IsReached c (Entry.Reap r ∷ past) q
@@ -135,7 +171,7 @@ reached_reap c past r q s l d ih = go (eqb (cqe_fields r.cqe).sqid q) refl
     go true z =
         let queue : x.queue ≡ q = sym a.sqid ∙ eqb-true _ _ z in
         let on : completion_queue c q ≡ r.queue = ap (completion_queue c) (sym queue) ∙ x.own in
-        let enough = reap_enough c past r q s (follows c past (Entry.Reap r) l).before x a y queue ih in
+        let enough = reap_enough c past r q s (follows c past (Entry.Reap r) l).before d x a y queue ih in
         let same : least_fetched c (observed c (Entry.Reap r ∷ past)) q ≡ least_behind c past r q =
         cond-true _ (least_behind c past r q) (least_fetched c (observed c past) q) z in
         inr (record {
@@ -196,9 +232,8 @@ head_right c r trace a d l =
     let legal = (follows c l.before (Entry.Reap line) l.legal).before in
     let x = reap_answers c l.before line l.legal in
     let y = reaped_head c l.before line x in
-    let is = head_is c l.before r.queue (reaped_count l.before r.queue) y.head s legal y.at in
     let e = cqe_fields r.cqe in
-    let says : e.sqhd ≡ y.head.1 % c.sq_size = ap (λ (b : List ℕ). (cqe_fields b).sqhd) (sym y.cqe) ∙ is.says in
+    let says : e.sqhd ≡ y.head.1 % c.sq_size = head_says c l.before line x y s legal in
     let small : nat_lt e.sqhd c.sq_size ≡ true =
     lt-ltb e.sqhd c.sq_size (omega (arith, says, mod-lt y.head.1 s.0)) in
     let few = least_is_published c (Entry.Reap line ∷ l.before) e.sqid s l.legal tidy in

@@ -2,6 +2,7 @@ pub mod Lines
 pub mod LastLine
 pub mod LineRules
 pub mod Heads
+pub mod WholePairs
 pub mod LeastFetched
 pub mod TableStatus
 pub mod Fetching

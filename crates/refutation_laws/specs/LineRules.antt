@@ -15,7 +15,7 @@ use Rattle.host_laws.specs.Calls.{cqe_status, is_clean}
 use Rattle.trace.specs.declared.seen.ReapedLine.{ReapedLine}
 use Rattle.trace.specs.declared.seen.Seen.{Seen}
 use Rattle.refutation_laws.specs.Lines.{answer_in, answered, is_tidy, published_in, reaped_in}
-use Rattle.refutation_laws.specs.MayAnswer.{may_answer}
+use Rattle.refutation_laws.specs.MayAnswer.{are_together, may_answer}
 
 -- The completion sets a bit that this profile leaves zero: in DW0 or DW1, the Command Retry Delay, More or Do Not Retry.
 abbrev pub sets_unused_bits : ReapedLine → Bool
@@ -35,6 +35,11 @@ names_wrong_queue c r =
 abbrev pub names_no_entry : List Seen → ReapedLine → Bool
 names_no_entry trace r = is_none (answered trace r.cqe)
 
+-- An entry has this FUSE, where there is one.
+abbrev pub has_fuse : ℕ → Option Submission → Bool
+has_fuse f None = false
+has_fuse f (Some s) = (sqe_fields s.entry).fuse == f
+
 -- The least number from `low` on that is `head` modulo n.
 abbrev pub next_at : ℕ → ℕ → ℕ → ℕ
 next_at n low head = low + (head + (n - low % n)) % n
@@ -44,15 +49,29 @@ abbrev pub count_to : Option ℕ → ℕ
 count_to None = 0
 count_to (Some j) = suc j
 
+-- So many entries of submission queue q end with the first of a pair, whose second the same line published. A Fetch takes
+-- both.
+abbrev pub parts_pair : List Seen → ℕ → ℕ → Bool
+parts_pair trace q zero = false
+parts_pair trace q (suc i) =
+    has_fuse 1 (slice_get (published_in trace q) i) && has_fuse 2 (slice_get (published_in trace q) (suc i))
+    && are_together trace q i
+
+-- This many, or, where that would part a pair, the next number that SQHD says so.
+abbrev pub next_whole : ConfigNumbers → List Seen → ℕ → ℕ → ℕ → ℕ
+next_whole c trace q head n = if parts_pair trace q n then next_at c.sq_size (suc n) head else n
+
 -- How many entries of submission queue q were fetched, at least, when the newest completion of it that a trace reaps was
--- posted: SQHD says it modulo the slots, the completion's own entry is among them, and it was never more before.
+-- posted: SQHD says it modulo the slots, the completion's own entry is among them, it was never more before, and no pair
+-- is parted.
 abbrev pub least_fetched : ConfigNumbers → List Seen → ℕ → ℕ
 least_fetched c [] q = 0
 least_fetched c (Seen.Published p ∷ trace) q = least_fetched c trace q
 least_fetched c (Seen.Reaped r ∷ trace) q =
     let e = cqe_fields r.cqe in
     if e.sqid == q
-    then next_at c.sq_size (max (least_fetched c trace q) (count_to (answered trace r.cqe))) e.sqhd
+    then next_whole c trace q e.sqhd
+    (next_at c.sq_size (max (least_fetched c trace q) (count_to (answered trace r.cqe))) e.sqhd)
     else least_fetched c trace q
 
 -- Its SQHD is no slot, or as many entries as it says at least aren't published.
@@ -88,11 +107,6 @@ answers_apart first s =
 abbrev pub is_apart_from : Option ReapedLine → Status → Bool
 is_apart_from None s = false
 is_apart_from (Some r) s = answers_apart (cqe_status r.cqe) s
-
--- An entry has this FUSE, where there is one.
-abbrev pub has_fuse : ℕ → Option Submission → Bool
-has_fuse f None = false
-has_fuse f (Some s) = (sqe_fields s.entry).fuse == f
 
 -- This entry of submission queue q and the one before it are the second and the first of a pair, and it can't be
 -- answered so behind the first's answer.
