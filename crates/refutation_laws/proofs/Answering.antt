@@ -29,13 +29,13 @@ use Rattle.trace.specs.declared.seen.ReapedLine.{ReapedLine}
 use Rattle.trace.specs.declared.seen.Seen as seen_lines
 use Rattle.refutation_laws.specs.Lines.{is_tidy, published_in}
 use Rattle.refutation_laws.specs.LineRules.{has_wrong_status, may_not_answer, number_may_not}
-use Rattle.refutation_laws.specs.MayAnswer.{answers_first, answers_second, may_answer, may_answer_behind}
+use Rattle.refutation_laws.specs.MayAnswer.{answers_first, answers_second, may_answer, may_answer_behind, parts_pair}
 use Rattle.refutation_laws.specs.MayAnswer.{may_answer_first, may_answer_second, verdict_at}
 use Rattle.refutation_laws.proofs.Fetching.{FetchOf, fetch_of}
 use Rattle.refutation_laws.proofs.LastLine.{LastReap, answers, reap_of, reaped_answer}
 use Rattle.refutation_laws.proofs.LineRules.{names_its_entry}
 use Rattle.refutation_laws.proofs.Lines.{answers_one, published_seen}
-use Rattle.refutation_laws.proofs.WholePairs.{alone_takes_one}
+use Rattle.refutation_laws.proofs.WholePairs.{alone_takes_one, begins_whole}
 use Rattle.refutation_laws.proofs.TableStatus.{owes_first, owes_second}
 
 -- ---- the Post of an entry
@@ -62,8 +62,9 @@ posted_of c past r x h =
 first_allowed : (c : ConfigNumbers) (past : Past) (q j : ℕ) (p : PostLine) (s : Submission) → IsLegal c past
     → (f : PostOf c past q j p) → slice_get (published_entries past q) j ≡ Some s
     → (n : Seen past f.at.before p.ticket q) → (x : First f.at.before p.ticket j s)
-    → FetchOf c past (Tickets.ticket past p.ticket).verdict q j → may_answer_first c (observed c past) q j s (cqe_status p.cqe) ≡ true
-first_allowed c past q j p s h f e n x g =
+    → parts_pair (observed c past) q j ≡ false → FetchOf c past (Tickets.ticket past p.ticket).verdict q j
+    → may_answer_first c (observed c past) q j s (cqe_status p.cqe) ≡ true
+first_allowed c past q j p s h f e n x w g =
     let before = f.at.before in
     let k = Tickets.ticket before p.ticket in
     let st = cqe_status p.cqe in
@@ -74,7 +75,8 @@ first_allowed c past q j p s h f e n x g =
     let says : answers_first (verdict_at c s g.next) (sqe_fields s.entry) st ≡ true =
     subst₂ (λ (a b : Submission). answers_first (verdict_at c a g.next) (sqe_fields b.entry) st ≡ true) same x.entry
     (owes_first c before p.ticket (verdict_at c g.first g.next) st v owes) in
-    elim g.behind [
+    and_from _ _ (ap not w)
+    (elim g.behind [
       | inl m ↦
           let next : g.next ≡ slice_get (published_in (observed c past) q) (suc j) =
           m ∙ ap (λ (l : List Submission). slice_get l (suc j)) (published_seen c past q) in
@@ -86,7 +88,7 @@ first_allowed c past q j p s h f e n x g =
           _
           (and_from _ _ (ap not m.1)
           (subst (λ (o : Option Submission). answers_first (verdict_at c s o) (sqe_fields s.entry) st ≡ true) m.0 says))
-    ]
+    ])
 
 second_allowed : (c : ConfigNumbers) (past : Past) (q i : ℕ) (p : PostLine) (s : Submission) → IsLegal c past
     → (f : PostOf c past q (suc i) p) → slice_get (published_entries past q) (suc i) ≡ Some s
@@ -131,6 +133,7 @@ status_allowed c past q j p s h d f e =
     let n = seen c past q j p f h in
     elim (which c past q j p s f e) [
       | inl x ↦ or_left _ _ (first_allowed c past q j p s h f e n x
+          (begins_whole c past p.ticket q j h d f.is.some n.known n.queue (n.number ∙ x.number))
           (fetch_of c past p.ticket q j h d f.is.some n.known n.queue (n.number ∙ x.number)))
       | inr x ↦ or_right (may_answer_first c (observed c past) q j s (cqe_status p.cqe)) _
           (behind_allowed c past q j p s h d f e n x)

@@ -62,6 +62,13 @@ no_missing_second = refl
 pub first_fails : has_wrong_status default pair (answer 7 0x0b 5 []) ≡ false
 first_fails = refl
 
+-- nor is a second alone, where one line publishes both
+pub missing_first : has_wrong_status default two_lines (answer 8 0x15 0 []) ≡ false
+missing_first = refl
+
+pub no_missing_first : has_wrong_status default pair (answer 8 0x15 0 []) ≡ true
+no_missing_first = refl
+
 -- a second that fails with its first, and one that compares
 pub second_aborted : has_wrong_status default pair (answer 8 0x13 0 []) ≡ false
 second_aborted = refl

@@ -25,7 +25,7 @@ use Rattle.trace.specs.Observed.{observed}
 use Rattle.trace.specs.declared.seen.ReapedLine.{ReapedLine}
 use Rattle.trace.specs.declared.seen.Seen.{Seen}
 use Rattle.refutation_laws.specs.LineRules.{count_to, has_wrong_head, least_fetched, next_at, next_whole}
-use Rattle.refutation_laws.specs.LineRules.{parts_pair}
+use Rattle.refutation_laws.specs.MayAnswer.{parts_pair}
 use Rattle.refutation_laws.specs.Lines.{answered, is_tidy, published_in}
 use Rattle.refutation_laws.proofs.Heads.{FitsHead, Head, head_is, head_of, heads, heads_rise, next_below}
 use Rattle.refutation_laws.proofs.WholePairs.{head_is_whole}

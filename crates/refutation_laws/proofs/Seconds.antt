@@ -18,7 +18,8 @@ use Rattle.host_laws.proofs.Verdicts.{status_eq}
 use Rattle.trace.specs.Observed.{observed}
 use Rattle.trace.specs.declared.seen.ReapedLine.{ReapedLine}
 use Rattle.trace.specs.declared.seen.Seen.{Seen}
-use Rattle.refutation_laws.specs.LineRules.{answers_apart, has_fuse, has_wrong_second, is_apart_from, is_second_apart}
+use Rattle.refutation_laws.specs.LineRules.{answers_apart, has_wrong_second, is_apart_from, is_second_apart}
+use Rattle.refutation_laws.specs.MayAnswer.{has_fuse}
 use Rattle.refutation_laws.specs.Lines.{answer_in, is_tidy}
 use Rattle.refutation_laws.proofs.LastLine.{LastReap, answers, reap_of}
 use Rattle.refutation_laws.proofs.LineRules.{names_its_entry, none_of}

@@ -6,6 +6,9 @@ use Rattle.nvme_model.specs.History.{Past}
 use Rattle.nvme_model.specs.Legal.{IsLegal}
 use Rattle.nvme_model.specs.Queues.{fetched_count, published_entries}
 use Rattle.nvme_model.specs.Statuses.{missing_fused}
+use Rattle.nvme_model.specs.Slots.{fetched_before}
+use Rattle.nvme_model.specs.Tickets
+use Rattle.nvme_model.specs.Tickets.{Ticket, tickets}
 use Rattle.nvme_model.specs.Verdict.{command_fault, item_of, of_command, of_pair, pair_fault, taken_entries}
 use Rattle.nvme_model.specs.declared.config.ConfigNumbers.{ConfigNumbers}
 use Rattle.nvme_model.specs.declared.entry.Entry.{Entry}
@@ -15,13 +18,13 @@ use Rattle.nvme_model.specs.declared.submission.Submission.{Submission}
 use Rattle.nvme_model.proofs.TakenEntries.{taken_two}
 use Rattle.host_laws.proofs.Calls.{second_fuse}
 use Rattle.host_laws.proofs.Elements.{same_some}
+use Rattle.host_laws.proofs.Fetches.{fetched_at}
 use Rattle.host_laws.proofs.TicketsApart.{taken_some}
 use Rattle.host_laws.proofs.Verdicts.{fuse, one_not_two, taken_few, verdict_is}
 use Rattle.trace.specs.Observed.{observed}
 use Rattle.trace.specs.declared.seen.Seen.{Seen}
-use Rattle.refutation_laws.specs.LineRules.{has_fuse, parts_pair}
 use Rattle.refutation_laws.specs.Lines.{is_tidy, published_in}
-use Rattle.refutation_laws.specs.MayAnswer.{are_together, verdict_at}
+use Rattle.refutation_laws.specs.MayAnswer.{are_together, has_fuse, parts_pair, verdict_at}
 use Rattle.refutation_laws.proofs.Fetching.{FetchOf, found, newest_fetch}
 use Rattle.refutation_laws.proofs.Heads.{FitsHead, Head, head_is, heads}
 use Rattle.refutation_laws.proofs.Lines.{published_seen}
@@ -147,3 +150,14 @@ pub head_is_whole : (c : ConfigNumbers) (past : Past) (n i : ℕ) (h : Head) →
 head_is_whole c past n i h s l d e =
     let is = head_is c past n i h s l e in
     count_is_whole c past is.later is.before h.0.queue h.1 is.is l d is.count
+
+-- no Fetch begins within such a pair
+pub begins_whole : (c : ConfigNumbers) (past : Past) (t q j : ℕ) → IsLegal c past → is_tidy (observed c past) ≡ true
+    → 1 ≤ t → t ≤ tickets past → (Tickets.ticket past t).queue ≡ q → fetched_before past t ≡ j
+    → parts_pair (observed c past) q j ≡ false
+begins_whole c past t q j h d some known queue number =
+    let f = fetched_at c past t h some known in
+    let fq : f.fetch.queue ≡ q = ap (λ (k : Ticket). k.queue) (sym f.ticket) ∙ queue in
+    count_is_whole c past (f.later ++ (Entry.Fetch f.fetch ∷ [])) f.before q j
+    (f.is ∙ sym (append_assoc f.later (Entry.Fetch f.fetch ∷ []) f.before)) h d
+    (ap (fetched_count f.before) (sym fq) ∙ (sym f.number ∙ number))

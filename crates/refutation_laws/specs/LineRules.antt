@@ -4,7 +4,7 @@ use Rattle.std.specs.Prelude.{ℕ, false}
 use Rattle.std.specs.Prelude.{◌%◌, ◌+◌, ◌&&◌, ◌-◌, ◌==◌, ◌||◌, ◌∷◌}
 use Rattle.nvme_model.specs.Completions.{phase}
 use Rattle.nvme_model.specs.Config.{completion_queue}
-use Rattle.nvme_model.specs.EntryBytes.{cqe_fields, sqe_fields}
+use Rattle.nvme_model.specs.EntryBytes.{cqe_fields}
 use Rattle.nvme_model.specs.Refusals.{no_queue}
 use Rattle.nvme_model.specs.Statuses.{compare_failure, failed_fused, is_success, same_status}
 use Rattle.nvme_model.specs.declared.config.ConfigNumbers.{ConfigNumbers}
@@ -15,7 +15,7 @@ use Rattle.host_laws.specs.Calls.{cqe_status, is_clean}
 use Rattle.trace.specs.declared.seen.ReapedLine.{ReapedLine}
 use Rattle.trace.specs.declared.seen.Seen.{Seen}
 use Rattle.refutation_laws.specs.Lines.{answer_in, answered, is_tidy, published_in, reaped_in}
-use Rattle.refutation_laws.specs.MayAnswer.{are_together, may_answer}
+use Rattle.refutation_laws.specs.MayAnswer.{has_fuse, may_answer, parts_pair}
 
 -- The completion sets a bit that this profile leaves zero: in DW0 or DW1, the Command Retry Delay, More or Do Not Retry.
 abbrev pub sets_unused_bits : ReapedLine → Bool
@@ -35,11 +35,6 @@ names_wrong_queue c r =
 abbrev pub names_no_entry : List Seen → ReapedLine → Bool
 names_no_entry trace r = is_none (answered trace r.cqe)
 
--- An entry has this FUSE, where there is one.
-abbrev pub has_fuse : ℕ → Option Submission → Bool
-has_fuse f None = false
-has_fuse f (Some s) = (sqe_fields s.entry).fuse == f
-
 -- The least number from `low` on that is `head` modulo n.
 abbrev pub next_at : ℕ → ℕ → ℕ → ℕ
 next_at n low head = low + (head + (n - low % n)) % n
@@ -48,14 +43,6 @@ next_at n low head = low + (head + (n - low % n)) % n
 abbrev pub count_to : Option ℕ → ℕ
 count_to None = 0
 count_to (Some j) = suc j
-
--- So many entries of submission queue q end with the first of a pair, whose second the same line published. A Fetch takes
--- both.
-abbrev pub parts_pair : List Seen → ℕ → ℕ → Bool
-parts_pair trace q zero = false
-parts_pair trace q (suc i) =
-    has_fuse 1 (slice_get (published_in trace q) i) && has_fuse 2 (slice_get (published_in trace q) (suc i))
-    && are_together trace q i
 
 -- This many, or, where that would part a pair, the next number that SQHD says so.
 abbrev pub next_whole : ConfigNumbers → List Seen → ℕ → ℕ → ℕ → ℕ

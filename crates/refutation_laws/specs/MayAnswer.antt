@@ -1,6 +1,6 @@
 -- What an entry may be answered, by its own fields and those of its neighbours, where no CID is in use twice.
 use Rattle.std.specs.Prelude.{Bool, List, None, Option, Some, [], false, length, nat_le, not, slice_get, suc, zero, ℕ}
-use Rattle.std.specs.Prelude.{◌&&◌, ◌||◌, ◌∷◌}
+use Rattle.std.specs.Prelude.{◌&&◌, ◌==◌, ◌||◌, ◌∷◌}
 use Rattle.nvme_model.specs.Commands.{is_compare}
 use Rattle.nvme_model.specs.EntryBytes.{Sqe, sqe_fields}
 use Rattle.nvme_model.specs.Statuses.{compare_failure, failed_fused, is_success, same_status}
@@ -15,6 +15,19 @@ use Rattle.refutation_laws.specs.Lines.{before_entry, published_in}
 -- One line publishes entry j of submission queue q and the next.
 abbrev pub are_together : List Seen → ℕ → ℕ → Bool
 are_together trace q j = nat_le (length (published_in (before_entry trace q (suc j)) q)) j
+
+-- An entry has this FUSE, where there is one.
+abbrev pub has_fuse : ℕ → Option Submission → Bool
+has_fuse f None = false
+has_fuse f (Some s) = (sqe_fields s.entry).fuse == f
+
+-- So many entries of submission queue q end with the first of a pair, whose second the same line published. A Fetch takes
+-- both.
+abbrev pub parts_pair : List Seen → ℕ → ℕ → Bool
+parts_pair trace q zero = false
+parts_pair trace q (suc i) =
+    has_fuse 1 (slice_get (published_in trace q) i) && has_fuse 2 (slice_get (published_in trace q) (suc i))
+    && are_together trace q i
 
 -- What a Fetch says that finds this entry at the front of its queue, and behind it this one or none, where none of their
 -- CIDs is in use.
@@ -38,12 +51,13 @@ answers_second (Verdict.PairFailed x y) s = same_status s y
 answers_second _ s = false
 
 -- A Fetch that begins at this entry, which has number j on submission queue q, may answer it so. Where the next entry
--- came by a later line, it may not have been there.
+-- came by a later line, it may not have been there. None begins within a pair that one line published.
 abbrev pub may_answer_first : ConfigNumbers → List Seen → ℕ → ℕ → Submission → Status → Bool
 may_answer_first c trace q j first s =
     let e = sqe_fields first.entry in
-    answers_first (verdict_at c first (slice_get (published_in trace q) (suc j))) e s
-    || (not (are_together trace q j) && answers_first (verdict_at c first None) e s)
+    not (parts_pair trace q j)
+    && (answers_first (verdict_at c first (slice_get (published_in trace q) (suc j))) e s
+    || (not (are_together trace q j) && answers_first (verdict_at c first None) e s))
 
 -- A Fetch that begins at the entry before this one may answer this one so.
 abbrev pub may_answer_behind : ConfigNumbers → Option Submission → Submission → Status → Bool
