@@ -242,7 +242,8 @@ pair_unit c k u r p h = one u (subst (λ (o : Option Op). slice_get (Operations.
 
 -- ---- success
 
-pub record DoneCommand (c : ConfigNumbers) (past : Past) (q j : ℕ) (r : ReapedLine) (k : TicketOf c past q j) : Type 0 where
+pub record DoneCommand (c : ConfigNumbers) (past : Past) (q j : ℕ) (r : ReapedLine) (k : TicketOf c past q j)
+    : Type 0 where
   pub effects : (u : ℕ) (x : Range) → slice_get (told_units c (observed c past) q j) u ≡ Some x
       → (before : Past) × (effect past k.ticket u ≡ Some before)
   pub equal : (u : ℕ) (before : Past) → effect past k.ticket u ≡ Some before
@@ -441,7 +442,8 @@ differed_command c past q j r o h d e y p only =
 
 -- ---- a failed check
 
-pub no_effect_of_failed : (c : ConfigNumbers) (past : Past) (q j u : ℕ) (r : ReapedLine) (before : Past) → IsLegal c past
+pub no_effect_of_failed : (c : ConfigNumbers) (past : Past) (q j u : ℕ) (r : ReapedLine) (before : Past)
+    → IsLegal c past
     → is_tidy (observed c past) ≡ true → answer_in (observed c past) q j ≡ Some r
     → is_success (cqe_status r.cqe) ≡ false → same_status (cqe_status r.cqe) compare_failure ≡ false
     → effect_by past q j u ≡ Some before → ⊥

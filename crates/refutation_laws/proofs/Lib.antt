@@ -15,3 +15,9 @@ pub mod ToldTickets
 pub mod Answered
 pub mod LineOrders
 pub mod BadLines
+pub mod ReadData
+pub mod EffectBlocks
+pub mod SliceLists
+pub mod Outside
+pub mod KeptEffects
+pub mod SliceWalks

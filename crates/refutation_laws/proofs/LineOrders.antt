@@ -16,7 +16,6 @@ use Rattle.nvme_model.specs.declared.config.ConfigNumbers.{ConfigNumbers}
 use Rattle.nvme_model.specs.declared.entry.BlockLine.{BlockLine}
 use Rattle.nvme_model.specs.declared.entry.Entry.{Entry}
 use Rattle.nvme_model.specs.declared.operation.Op.{Op}
-use Rattle.nvme_model.specs.declared.submission.Submission.{Submission}
 use Rattle.nvme_model.proofs.Beginnings.{earlier}
 use Rattle.nvme_model.proofs.Once.{unit_before}
 use Rattle.nvme_model.proofs.Pairs.{marked_here}
@@ -175,6 +174,13 @@ not_yet c later start q j u h l = go (effect_by start q j u) refl
             let e : last_entry (observed c (later ++ start)) q j ≡ j = cond-false _ (suc j) j p in
             absurd (omega (arith, x, l, e))
 
+moved_on : (c : ConfigNumbers) (before after start : Past) (a : EffectName) (first : Past) → before ≡ after ++ start
+    → IsLegal c before → effect_by start a.queue a.number a.unit ≡ Some first
+    → effect_by before a.queue a.number a.unit ≡ Some first
+moved_on c before after start a first e h f =
+    subst (λ (p : Past). effect_by p a.queue a.number a.unit ≡ Some first) (sym e)
+    (by_later c after start a.queue a.number a.unit first (subst (λ (p : Past). IsLegal c p) e h) f)
+
 pub ended_before : (c : ConfigNumbers) (past : Past) (a b : EffectName) (before : Past) → IsLegal c past
     → is_tidy (observed c past) ≡ true → ends_before c (observed c past) a b ≡ true
     → effect_by past b.queue b.number b.unit ≡ Some before
@@ -190,21 +196,19 @@ ended_before c past a b before h d e f =
     let sure : is_sure c (observed c start.1) a.queue a.number a.unit ≡ true =
     ap (λ (t : List Seen). is_sure c t a.queue a.number a.unit) start.3 ∙ e in
     let there = sure_effect c start.1 a.queue a.number a.unit (earlier c start.0 start.1 legal) tidy sure in
+    let shown : length (published_entries start.1 b.queue) ≡ length (published_in first b.queue) =
+    ap length (published_seen c start.1 b.queue ∙ ap (λ (t : List Seen). published_in t b.queue) start.3) in
+    let last : n ≡ last_entry (observed c (start.0 ++ start.1)) b.queue b.number =
+    ap (λ (p : Past). last_entry (observed c p) b.queue b.number) start.2 in
     let few : length (published_entries start.1 b.queue)
-    ≤ last_entry (observed c (start.0 ++ start.1)) b.queue b.number =
-    subst (λ (p : Past). length (published_entries start.1 b.queue) ≤ last_entry (observed c p) b.queue b.number)
-    start.2
-    (subst (λ (xs : List Submission). length xs ≤ n)
-    (sym (published_seen c start.1 b.queue ∙ ap (λ (t : List Seen). published_in t b.queue) start.3)) lines.few) in
+    ≤ last_entry (observed c (start.0 ++ start.1)) b.queue b.number = omega (arith, lines.few, shown, last) in
     let none = not_yet c start.0 start.1 b.queue b.number b.unit legal few in
     let f2 : effect_by (start.0 ++ start.1) b.queue b.number b.unit ≡ Some before =
     subst (λ (p : Past). effect_by p b.queue b.number b.unit ≡ Some before) start.2 f in
     let after = behind start.0 start.1 b.queue b.number b.unit before f2 none in
-    let of = effect_of c past b.queue b.number b.unit before (by_effect past b.queue b.number b.unit before f) h in
-    let whole : IsLegal c (after.0 ++ start.1) = subst (λ (p : Past). IsLegal c p) after.1 of.legal_before in (
+    let of = effect_of c past b.queue b.number b.unit before (by_effect past b.queue b.number b.unit before f) h in (
       there.0,
-      subst (λ (p : Past). effect_by p a.queue a.number a.unit ≡ Some there.0) (sym after.1)
-          (by_later c after.0 start.1 a.queue a.number a.unit there.0 whole there.1),
+      moved_on c before after.0 start.1 a there.0 after.1 of.legal_before there.1,
     )
 
 -- ---- rule 2: both are of one command
@@ -272,8 +276,9 @@ comes_first c past a b before h d e f = elim (or_cases (ends_before c (observed 
 
 -- ---- of a trace that a history explains
 
-pub sure_explained : (c : ConfigNumbers) (past : Past) (trace : List Seen) (q j u : ℕ) → Explains no_options c past trace
-    → is_tidy trace ≡ true → is_sure c trace q j u ≡ true → (before : Past) × (effect_by past q j u ≡ Some before)
+pub sure_explained : (c : ConfigNumbers) (past : Past) (trace : List Seen) (q j u : ℕ)
+    → Explains no_options c past trace → is_tidy trace ≡ true → is_sure c trace q j u ≡ true
+    → (before : Past) × (effect_by past q j u ≡ Some before)
 sure_explained c past trace q j u x d e =
     let h = all_explained c past trace x in
     sure_effect c past q j u h.0 (ap is_tidy h.1 ∙ d) (ap (λ (t : List Seen). is_sure c t q j u) h.1 ∙ e)

@@ -134,7 +134,8 @@ effect_of c past q j u before at h =
 
 -- ---- a unit has one effect
 
-once_more : (c : ConfigNumbers) (past : Past) (b : BlockLine) (q j u : ℕ) (before : Past) → IsLegal c (Entry.Block b ∷ past)
+once_more : (c : ConfigNumbers) (past : Past) (b : BlockLine) (q j u : ℕ) (before : Past)
+    → IsLegal c (Entry.Block b ∷ past)
     → is_effect_of past b q j u ≡ true → effect_by past q j u ≡ Some before → ⊥
 once_more c past b q j u before h here e =
     let legal = (follows c past (Entry.Block b) h).before in

@@ -12,7 +12,8 @@ use Rattle.nvme_model.specs.EntryBytes.{Sqe, block_count, slba, sqe_fields}
 use Rattle.nvme_model.specs.History.{Past}
 use Rattle.nvme_model.specs.Legal.{IsLegal}
 use Rattle.nvme_model.specs.Open.{unit_range}
-use Rattle.nvme_model.specs.Operations.{compare_data, has_compare, has_write, op, is_pair, op_by, units, units_by, write_data}
+use Rattle.nvme_model.specs.Operations.{compare_data, has_compare, has_write, op, is_pair, op_by, units, units_by}
+use Rattle.nvme_model.specs.Operations.{write_data}
 use Rattle.nvme_model.specs.Operations.{op_of_fields, write_data_by}
 use Rattle.nvme_model.specs.Queues.{published_entries}
 use Rattle.nvme_model.specs.Tickets.{Ticket, command, first_fields}
@@ -44,8 +45,8 @@ some_op c k u r h = go (op k) refl
     go (Some o) e = (o, refl)
     go None e =
         let n : slice_get (units_by c.atomic None (slba (first_fields k)) (block_count (first_fields k))) u ≡ Some r =
-        subst (λ (x : Option Op). slice_get (units_by c.atomic x (slba (first_fields k)) (block_count (first_fields k))) u
-        ≡ Some r) e h in
+        subst (λ (x : Option Op).
+        slice_get (units_by c.atomic x (slba (first_fields k)) (block_count (first_fields k))) u ≡ Some r) e h in
         absurd (let f : None ≡ Some r = n in cc)
 
 pub op_passed : (v : Verdict) (e : Sqe) (o : Op) → op_by v e ≡ Some o → passed v ≡ true
@@ -102,7 +103,8 @@ same_written k m l h = go (op k) refl ∙ ap (λ (o : Option Op). write_data_by 
 pub same_equal : (contents : ℕ → List ℕ) (k m : Ticket) (r : Range) → IsAlike k m
     → all_equal contents k r ≡ all_equal contents m r
 same_equal contents k m r h =
-    ap (λ (s : Submission). list_all (λ l. bytes_eq (contents l) (block_of s s l)) (blocks_from r.slba r.blocks)) h.first
+    ap (λ (s : Submission). list_all (λ l. bytes_eq (contents l) (block_of s s l)) (blocks_from r.slba r.blocks))
+    h.first
 
 pub same_writes : (contents : ℕ → List ℕ) (k m : Ticket) (r : Range) → IsAlike k m
     → writes contents k r ≡ writes contents m r

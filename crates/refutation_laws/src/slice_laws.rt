@@ -2,6 +2,7 @@
 //! its number there, from 0; its units by their numbers, from 0.
 
 ghost use Rattle.std.specs.Prelude.{◌++◌, ◌≡◌, ◌≤◌, ◌∷◌, List, None, Some, length, true, ℕ};
+ghost use Rattle.nvme_model.specs.Array.{zeros};
 ghost use Rattle.nvme_model.specs.History.{Past};
 ghost use Rattle.nvme_model.specs.Legal.{IsLegal};
 ghost use Rattle.nvme_model.specs.Queues.{published_entries};
@@ -13,7 +14,9 @@ ghost use Rattle.trace.specs.Options.{no_options};
 ghost use Rattle.trace.specs.declared.seen.Seen.{Seen};
 ghost use Rattle.refutation_laws.specs.Effects.{effect_by, is_effect_of};
 ghost use Rattle.refutation_laws.specs.Lines.{is_tidy};
-ghost use Rattle.refutation_laws.specs.Slices.{EffectName, comes_before, is_sure};
+ghost use Rattle.refutation_laws.specs.Slices.{EffectName, comes_before, is_sure, slice_of};
+ghost use Rattle.slice_orders.specs.Layers.{has_no_order};
+ghost use Rattle.slice_orders.specs.Orders.{IsOrder};
 
 /// A unit of a command has one effect, which stays where it is, and none before its entry is published; one that isn't
 /// in a beginning of a history stands behind it.
@@ -40,4 +43,15 @@ pub fn effects_keep_the_order_of_lines()
         Explains no_options c past trace → is_tidy trace ≡ true → comes_before c trace a b ≡ true →
         effect_by past b.queue b.number b.unit ≡ Some before →
         (first : Past) × (effect_by before a.queue a.number a.unit ≡ Some first) }
+{}
+
+/// Each history that explains a trace gives an order of each slice of it: the order of its effects. So no history
+/// explains a trace of which a slice has no order.
+pub fn each_history_gives_an_order()
+    ensures order { (c : ConfigNumbers) (past : Past) (trace : List Seen) (commands : List (ℕ × ℕ)) (blocks : List ℕ) →
+        Explains no_options c past trace → is_tidy trace ≡ true →
+        (order : List ℕ) × IsOrder zeros (slice_of c trace commands blocks) order }
+    ensures refuted { (c : ConfigNumbers) (past : Past) (trace : List Seen) (commands : List (ℕ × ℕ))
+        (blocks : List ℕ) → is_tidy trace ≡ true → has_no_order zeros (slice_of c trace commands blocks) ≡ true →
+        Explains no_options c past trace → ⊥ }
 {}
