@@ -1,6 +1,6 @@
 -- A completion's status is one that its entry may be answered.
 use Rattle.nvme_model.specs.Tickets
-use Rattle.std.proofs.Common.{◌≡◌, ℕ, zero, suc, true, false, List, ◌∷◌, Option}
+use Rattle.std.proofs.Common.{eq-eqb, length, ◌≡◌, ℕ, zero, suc, true, false, List, ◌∷◌, Option}
 use Rattle.std.proofs.Common.{Some, slice_get, not, sym, ap, ap₂, ◌∙◌, subst, subst₂, inl, inr, arith}
 use Rattle.std.proofs.lemmas.Bool.{and_from, or_left, or_right}
 use Rattle.nvme_model.specs.Completions.{reaped_count}
@@ -24,11 +24,14 @@ use Rattle.host_laws.proofs.Calls.{First, PostOf, Second, Seen, seen, which}
 use Rattle.host_laws.proofs.Elements.{same_some}
 use Rattle.host_laws.proofs.PostedAnswers.{PostedAt, answer_at}
 use Rattle.host_laws.proofs.Statuses.{post_is}
-use Rattle.trace.specs.Observed.{observed}
+use Rattle.trace.specs.Observed.{observed, payload_by}
 use Rattle.trace.specs.declared.seen.ReapedLine.{ReapedLine}
 use Rattle.trace.specs.declared.seen.Seen as seen_lines
 use Rattle.refutation_laws.specs.Lines.{is_tidy, published_in}
-use Rattle.refutation_laws.specs.LineRules.{has_wrong_status, may_not_answer, number_may_not}
+use Rattle.refutation_laws.specs.LineRules.{has_wrong_data, has_wrong_status, may_not_answer, number_may_not}
+use Rattle.refutation_laws.specs.LineRules.{number_owes_other, owes_other_data}
+use Rattle.refutation_laws.specs.MayAnswer.{data_owed}
+use Rattle.refutation_laws.proofs.ReadLengths.{data_length_is}
 use Rattle.refutation_laws.specs.MayAnswer.{answers_first, answers_second, may_answer, may_answer_behind, parts_pair}
 use Rattle.refutation_laws.specs.MayAnswer.{may_answer_first, may_answer_second, verdict_at}
 use Rattle.refutation_laws.proofs.Fetching.{FetchOf, fetch_of}
@@ -141,6 +144,15 @@ status_allowed c past q j p s h d f e =
 
 -- ---- the rule
 
+-- the entry that it answers is published
+entry_there : (c : ConfigNumbers) (r : ReapedLine) (trace : List seen_lines.Seen) (l : LastReap c r trace)
+    → slice_get (published_in trace (answers c r trace l).queue) (answers c r trace l).number
+    ≡ Some (answers c r trace l).entry
+entry_there c r trace l =
+    let x = answers c r trace l in
+    ap (λ (t : List seen_lines.Seen). slice_get (published_in t x.queue) x.number) (sym l.seen)
+    ∙ (ap (λ (xs : List Submission). slice_get xs x.number) (sym (published_seen c l.before x.queue)) ∙ x.published)
+
 pub status_right : (c : ConfigNumbers) (r : ReapedLine) (trace : List seen_lines.Seen) → is_tidy trace ≡ true
     → LastReap c r trace → has_wrong_status c trace r ≡ false
 status_right c r trace d l =
@@ -155,9 +167,27 @@ status_right c r trace d l =
     subst₂ (λ (t : List seen_lines.Seen) (s : Status). may_answer c t x.queue x.number x.entry s ≡ true) l.seen st
     (status_allowed c l.before x.queue x.number x.post x.entry legal tidy (posted_of c l.before line x legal)
     x.published) in
-    let there : slice_get (published_in trace x.queue) x.number ≡ Some x.entry =
-    ap (λ (t : List seen_lines.Seen). slice_get (published_in t x.queue) x.number) (sym l.seen)
-    ∙ (ap (λ (xs : List Submission). slice_get xs x.number) (sym (published_seen c l.before x.queue)) ∙ x.published) in
     ap₂ (λ (q : ℕ) (o : Option ℕ). number_may_not c trace q o (cqe_status r.cqe)) a.sqid
     (names_its_entry c r trace d l)
-    ∙ (ap (λ (o : Option Submission). may_not_answer c trace x.queue x.number o (cqe_status r.cqe)) there ∙ ap not may)
+    ∙ (ap (λ (o : Option Submission). may_not_answer c trace x.queue x.number o (cqe_status r.cqe))
+    (entry_there c r trace l) ∙ ap not may)
+
+-- and so is the data beside it
+pub data_right : (c : ConfigNumbers) (r : ReapedLine) (trace : List seen_lines.Seen) → is_tidy trace ≡ true
+    → LastReap c r trace → has_wrong_data trace r ≡ false
+data_right c r trace d l =
+    let line = reap_of r in
+    let x = answers c r trace l in
+    let tidy : is_tidy (observed c l.before) ≡ true =
+    subst (λ (t : List seen_lines.Seen). is_tidy t ≡ true) (sym l.seen) d in
+    let legal = (follows c l.before (Entry.Reap line) l.legal).before in
+    let a = answers_one c l.before line l.legal tidy in
+    let bytes : x.post.payload ≡ r.payload = sym (ap payload_by x.posted) ∙ l.payload in
+    let owed : length r.payload ≡ data_owed x.entry (cqe_status r.cqe) =
+    ap (λ (b : List ℕ). length b) (sym bytes)
+    ∙ (data_length_is c l.before x.queue x.number x.post x.entry (posted_of c l.before line x legal) x.published
+    ∙ ap (λ (b : List ℕ). data_owed x.entry (cqe_status b)) x.cqe) in
+    ap₂ (λ (q : ℕ) (o : Option ℕ). number_owes_other trace q o (cqe_status r.cqe) (length r.payload)) a.sqid
+    (names_its_entry c r trace d l)
+    ∙ (ap (λ (o : Option Submission). owes_other_data o (cqe_status r.cqe) (length r.payload))
+    (entry_there c r trace l) ∙ ap not (eq-eqb (length r.payload) (data_owed x.entry (cqe_status r.cqe)) owed))

@@ -1,10 +1,10 @@
 -- Statuses that the rule refutes, and their neighbours that it doesn't.
-use Rattle.std.specs.Prelude.{List, [], false, refl, true, ℕ, ◌∷◌, ◌≡◌}
+use Rattle.std.specs.Prelude.{List, [], false, refl, replicate, true, ℕ, ◌∷◌, ◌≡◌}
 use Rattle.nvme_model.specs.Examples.{cqe, default, one, pair_on_3, submit}
 use Rattle.nvme_model.specs.declared.submission.Submission.{Submission}
 use Rattle.trace.specs.declared.seen.ReapedLine.{ReapedLine}
 use Rattle.trace.specs.declared.seen.Seen.{Seen}
-use Rattle.refutation_laws.specs.LineRules.{has_wrong_second, has_wrong_status}
+use Rattle.refutation_laws.specs.LineRules.{has_wrong_data, has_wrong_second, has_wrong_status}
 
 -- a Publish of these entries to queue 1
 abbrev published : List Submission → Seen
@@ -95,3 +95,28 @@ both_fail = refl
 
 pub second_alone_succeeds : has_wrong_second (Seen.Reaped (answer 7 0x0b 5 []) ∷ pair) (answer 8 1 0 []) ≡ true
 second_alone_succeeds = refl
+
+-- ---- data
+
+abbrev a_read : List Seen
+a_read = published (submit 2 0 5 6 1 [] ∷ []) ∷ []
+
+-- two blocks, or one
+pub both_blocks : has_wrong_data a_read (answer 5 1 0 (replicate 1024 0)) ≡ false
+both_blocks = refl
+
+pub one_block : has_wrong_data a_read (answer 5 1 0 (replicate 512 0)) ≡ true
+one_block = refl
+
+-- a Read that failed has none, nor has a Write
+pub no_blocks : has_wrong_data a_read (answer 5 1 1 []) ≡ false
+no_blocks = refl
+
+pub failed_blocks : has_wrong_data a_read (answer 5 1 1 (replicate 1024 0)) ≡ true
+failed_blocks = refl
+
+pub written_data : has_wrong_data last_block (answer 5 1 0 (replicate 512 0)) ≡ true
+written_data = refl
+
+pub written_none : has_wrong_data last_block (answer 5 1 0 []) ≡ false
+written_none = refl

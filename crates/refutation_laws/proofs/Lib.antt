@@ -6,6 +6,7 @@ pub mod WholePairs
 pub mod LeastFetched
 pub mod TableStatus
 pub mod Fetching
+pub mod ReadLengths
 pub mod Answering
 pub mod Seconds
 pub mod ExampleLines

@@ -15,7 +15,7 @@ use Rattle.host_laws.specs.Calls.{cqe_status, is_clean}
 use Rattle.trace.specs.declared.seen.ReapedLine.{ReapedLine}
 use Rattle.trace.specs.declared.seen.Seen.{Seen}
 use Rattle.refutation_laws.specs.Lines.{answer_in, answered, is_tidy, published_in, reaped_in}
-use Rattle.refutation_laws.specs.MayAnswer.{has_fuse, may_answer, parts_pair}
+use Rattle.refutation_laws.specs.MayAnswer.{data_owed, has_fuse, may_answer, parts_pair}
 
 -- The completion sets a bit that this profile leaves zero: in DW0 or DW1, the Command Retry Delay, More or Do Not Retry.
 abbrev pub sets_unused_bits : ReapedLine → Bool
@@ -109,6 +109,21 @@ abbrev pub has_wrong_second : List Seen → ReapedLine → Bool
 has_wrong_second trace r =
     is_second_apart trace (cqe_fields r.cqe).sqid (answered trace r.cqe) (cqe_status r.cqe)
 
+-- There is this entry, and so many bytes of data don't belong to its completion with this status.
+abbrev pub owes_other_data : Option Submission → Status → ℕ → Bool
+owes_other_data None s n = false
+owes_other_data (Some entry) s n = not (n == data_owed entry s)
+
+-- The same, of the number of an entry of submission queue q.
+abbrev pub number_owes_other : List Seen → ℕ → Option ℕ → Status → ℕ → Bool
+number_owes_other trace q None s n = false
+number_owes_other trace q (Some j) s n = owes_other_data (slice_get (published_in trace q) j) s n
+
+-- The data beside it isn't as long as the blocks of a Read that succeeded, or there is some beside another completion.
+abbrev pub has_wrong_data : List Seen → ReapedLine → Bool
+has_wrong_data trace r =
+    number_owes_other trace (cqe_fields r.cqe).sqid (answered trace r.cqe) (cqe_status r.cqe) (length r.payload)
+
 -- A Publish that no controller takes: to a submission queue that isn't there, of no entry, or of more than the queue's
 -- slots hold.
 abbrev pub has_wrong_batch : ConfigNumbers → PublishLine → Bool
@@ -118,6 +133,7 @@ has_wrong_batch c p = no_queue c p.queue || (length p.batch == 0) || nat_lt (c.s
 abbrev pub breaks_entry_rules : ConfigNumbers → List Seen → ReapedLine → Bool
 breaks_entry_rules c trace r =
     names_no_entry trace r || has_wrong_head c trace r || has_wrong_status c trace r || has_wrong_second trace r
+    || has_wrong_data trace r
 
 -- The newest line of a trace is bad. Which entry a completion answers is asked behind lines that publish no CID again
 -- while it waits.

@@ -1,8 +1,8 @@
 -- What an entry may be answered, by its own fields and those of its neighbours, where no CID is in use twice.
 use Rattle.std.specs.Prelude.{Bool, List, None, Option, Some, [], false, length, nat_le, not, slice_get, suc, zero, ℕ}
-use Rattle.std.specs.Prelude.{◌&&◌, ◌==◌, ◌||◌, ◌∷◌}
-use Rattle.nvme_model.specs.Commands.{is_compare}
-use Rattle.nvme_model.specs.EntryBytes.{Sqe, sqe_fields}
+use Rattle.std.specs.Prelude.{if◌then◌else◌, ◌&&◌, ◌*◌, ◌==◌, ◌||◌, ◌∷◌}
+use Rattle.nvme_model.specs.Commands.{is_compare, is_read}
+use Rattle.nvme_model.specs.EntryBytes.{Sqe, block_count, sqe_fields}
 use Rattle.nvme_model.specs.Statuses.{compare_failure, failed_fused, is_success, same_status}
 use Rattle.nvme_model.specs.Verdict.{item_of, verdict_of}
 use Rattle.nvme_model.specs.declared.config.ConfigNumbers.{ConfigNumbers}
@@ -73,3 +73,10 @@ may_answer_second c trace q (suc i) second s = may_answer_behind c (slice_get (p
 -- Fetch.
 abbrev pub may_answer : ConfigNumbers → List Seen → ℕ → ℕ → Submission → Status → Bool
 may_answer c trace q j entry s = may_answer_first c trace q j entry s || may_answer_second c trace q j entry s
+
+-- How many bytes of data lie beside a completion with this status of this entry: those of the blocks of a Read that
+-- succeeded.
+abbrev pub data_owed : Submission → Status → ℕ
+data_owed entry s =
+    let e = sqe_fields entry.entry in
+    if is_success s && is_read e then 512 * block_count e else 0

@@ -15,7 +15,7 @@ ghost use Rattle.trace.specs.Options.{no_options};
 ghost use Rattle.trace.specs.declared.seen.ReapedLine.{ReapedLine};
 ghost use Rattle.trace.specs.declared.seen.Seen.{Seen};
 ghost use Rattle.refutation_laws.specs.LineRules.{has_wrong_head, has_wrong_phase, has_wrong_status, is_bad_line, names_no_entry};
-ghost use Rattle.refutation_laws.specs.LineRules.{has_wrong_batch, has_wrong_second, names_wrong_queue, sets_unused_bits};
+ghost use Rattle.refutation_laws.specs.LineRules.{has_wrong_batch, has_wrong_data, has_wrong_second, names_wrong_queue, sets_unused_bits};
 ghost use Rattle.refutation_laws.specs.Lines.{answer_in, is_tidy, published_in, reaped_in, waiting_in};
 
 /// What hosts saw of a legal history tells which entries are published and how many completions are reaped. Where no
@@ -78,6 +78,12 @@ pub fn no_completion_has_a_wrong_status()
 pub fn no_second_is_answered_apart()
     ensures { (c : ConfigNumbers) (past : Past) (r : ReapedLine) (trace : List Seen) → is_tidy trace ≡ true →
         Explains no_options c past (Seen.Reaped r ∷ trace) → has_wrong_second trace r ≡ false }
+{}
+
+/// The data beside it is that of a Read that succeeded, and beside any other completion is none.
+pub fn no_completion_has_wrong_data()
+    ensures { (c : ConfigNumbers) (past : Past) (r : ReapedLine) (trace : List Seen) → is_tidy trace ≡ true →
+        Explains no_options c past (Seen.Reaped r ∷ trace) → has_wrong_data trace r ≡ false }
 {}
 
 /// No Publish that no controller takes is the newest line.
