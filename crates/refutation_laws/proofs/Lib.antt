@@ -22,3 +22,4 @@ pub mod SliceLists
 pub mod Outside
 pub mod KeptEffects
 pub mod SliceWalks
+pub mod ReadFields
