@@ -52,7 +52,7 @@ use Rattle.trace.specs.declared.seen.ReapedLine.{ReapedLine}
 use Rattle.trace.specs.declared.seen.Seen.{Seen}
 use Rattle.refutation_laws.specs.Effects.{effect_by}
 use Rattle.refutation_laws.specs.Lines.{answer_in, is_tidy, published_in}
-use Rattle.refutation_laws.specs.Slices.{told_ticket, told_units, told_verdict}
+use Rattle.refutation_laws.specs.Told.{told_ticket, told_units, told_verdict}
 use Rattle.refutation_laws.proofs.Lines.{answer_post, published_seen}
 use Rattle.ticket_laws.proofs.Later.{tickets_later}
 use Rattle.refutation_laws.proofs.NamedEffects.{NumberedTicket, by_effect, effect_of}
@@ -442,6 +442,14 @@ differed_command c past q j r o h d e y p only =
 
 -- ---- a failed check
 
+pub not_second : (trace : List Seen) (q j : ℕ) (s : Submission) (o : Op) → command (told_ticket trace q j) 0 ≡ s
+    → op (told_ticket trace q j) ≡ Some o → eqb (fuse s) 2 ≡ false
+not_second trace q j s o e f = by (kind_of trace q j s o e f)
+  where
+    by : Kind s o → eqb (fuse s) 2 ≡ false
+    by (Kind.pair one same) = one_not_two (fuse s) one
+    by (Kind.single one two fields np) = two
+
 pub no_effect_of_failed : (c : ConfigNumbers) (past : Past) (q j u : ℕ) (r : ReapedLine) (before : Past)
     → IsLegal c past
     → is_tidy (observed c past) ≡ true → answer_in (observed c past) q j ≡ Some r
@@ -468,11 +476,3 @@ no_effect_of_failed c past q j u r before h d e y z f =
     clash (passed (Tickets.ticket before t).verdict) told.passed
     (ap (λ (k : Ticket). passed k.verdict) (sym of.ticket)
     ∙ (ap (λ (i : ℕ). passed (Tickets.ticket past i).verdict) (sym same) ∙ w.failed))
-  where
-    not_second : (trace : List Seen) (q j : ℕ) (s : Submission) (o : Op) → command (told_ticket trace q j) 0 ≡ s
-        → op (told_ticket trace q j) ≡ Some o → eqb (fuse s) 2 ≡ false
-    not_second trace q j s o e f = by (kind_of trace q j s o e f)
-      where
-        by : Kind s o → eqb (fuse s) 2 ≡ false
-        by (Kind.pair one same) = one_not_two (fuse s) one
-        by (Kind.single one two fields np) = two

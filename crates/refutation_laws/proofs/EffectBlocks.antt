@@ -33,8 +33,10 @@ use Rattle.trace.specs.Observed.{observed}
 use Rattle.trace.specs.declared.seen.ReapedLine.{ReapedLine}
 use Rattle.refutation_laws.specs.Effects.{effect_by}
 use Rattle.refutation_laws.specs.Lines.{is_tidy}
-use Rattle.refutation_laws.specs.Slices.{EffectName, answer_of, found_block, looks, range_of}
-use Rattle.refutation_laws.specs.Slices.{says_failed, ticket_of, told_units}
+use Rattle.refutation_laws.specs.EffectOrders.{EffectName}
+use Rattle.refutation_laws.specs.Slices.{answer_of, found_block, looks, range_of}
+use Rattle.refutation_laws.specs.Slices.{says_failed, ticket_of}
+use Rattle.refutation_laws.specs.Told.{told_units}
 use Rattle.refutation_laws.proofs.Answered.{AnsweredEntry, DoneCommand, Kind, TicketOf, answered_entry}
 use Rattle.refutation_laws.proofs.Answered.{differed_command, done_command, kind_of, no_effect_of_failed}
 use Rattle.refutation_laws.proofs.Answered.{told_range}

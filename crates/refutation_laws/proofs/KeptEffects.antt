@@ -27,10 +27,13 @@ use Rattle.slice_orders.specs.Pieces.{Held}
 use Rattle.trace.specs.Observed.{observed}
 use Rattle.trace.specs.declared.seen.ReapedLine.{ReapedLine}
 use Rattle.trace.specs.declared.seen.Seen.{Seen}
-use Rattle.refutation_laws.specs.Slices.{EffectName, answer_data, answer_of, blocks_in, blocks_of, differs_of, finds_of}
-use Rattle.refutation_laws.specs.Slices.{found_block, is_piece, is_sure, looks, none_else, range_of, says_differs}
-use Rattle.refutation_laws.specs.Slices.{says_done}
-use Rattle.refutation_laws.specs.Slices.{says_failed, ticket_of, told_units, writes_of}
+use Rattle.refutation_laws.specs.EffectOrders.{EffectName}
+use Rattle.refutation_laws.specs.Slices.{answer_data, answer_of, blocks_in, blocks_of, differs_of, finds_of}
+use Rattle.refutation_laws.specs.Slices.{found_block, is_piece, looks, none_else, range_of}
+use Rattle.refutation_laws.specs.Told.{is_sure, says_differs}
+use Rattle.refutation_laws.specs.Told.{says_done}
+use Rattle.refutation_laws.specs.Slices.{says_failed, ticket_of, writes_of}
+use Rattle.refutation_laws.specs.Told.{told_units}
 use Rattle.refutation_laws.proofs.EffectBlocks.{EffectHere, equal_at, found_here, has_parts, in_blocks, no_here}
 use Rattle.refutation_laws.proofs.EffectBlocks.{nothing_written, of_blocks, yes_here}
 use Rattle.refutation_laws.proofs.SliceLists.{all_from, all_in, filter_holds, in_map, none_from, not_all, of_map}

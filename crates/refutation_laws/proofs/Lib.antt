@@ -23,3 +23,7 @@ pub mod Outside
 pub mod KeptEffects
 pub mod SliceWalks
 pub mod ReadFields
+pub mod Postings
+pub mod PostOrders
+pub mod HeadOrders
+pub mod OrderRules

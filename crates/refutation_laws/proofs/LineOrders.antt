@@ -23,15 +23,14 @@ use Rattle.nvme_model.proofs.Runs.{some_at}
 use Rattle.host_laws.proofs.Later.{some_effect}
 use Rattle.host_laws.specs.Calls.{cqe_status}
 use Rattle.nvme_model.specs.Statuses.{compare_failure, is_success, same_status}
-use Rattle.trace.proofs.Beginnings.{all_explained}
-use Rattle.trace.specs.Observed.{Explains, observed, shown, with_shown}
-use Rattle.trace.specs.Options.{no_options}
+use Rattle.trace.specs.Observed.{observed, shown, with_shown}
 use Rattle.trace.specs.declared.seen.ReapedLine.{ReapedLine}
 use Rattle.trace.specs.declared.seen.Seen.{Seen}
 use Rattle.refutation_laws.specs.Effects.{effect_by}
 use Rattle.refutation_laws.specs.Lines.{answer_in, before_entry, is_tidy, published_in}
-use Rattle.refutation_laws.specs.Slices.{EffectName, comes_before, ends_before, is_earlier_unit, is_sure, last_entry}
-use Rattle.refutation_laws.specs.Slices.{says_differs, says_done, told_ticket, told_units}
+use Rattle.refutation_laws.specs.EffectOrders.{EffectName, ends_before, is_earlier_unit, last_entry}
+use Rattle.refutation_laws.specs.Told.{is_sure}
+use Rattle.refutation_laws.specs.Told.{says_differs, says_done, told_ticket, told_units}
 use Rattle.refutation_laws.proofs.Answered.{differed_command, done_command}
 use Rattle.refutation_laws.proofs.Lines.{published_seen, tidy_before}
 use Rattle.refutation_laws.proofs.NamedEffects.{EffectBy, behind, by_effect, by_later, effect_of, entries_of}
@@ -262,31 +261,3 @@ unit_earlier c past a b before h e f =
           })
           there.1,
     )
-
--- ---- the rules
-
-pub comes_first : (c : ConfigNumbers) (past : Past) (a b : EffectName) (before : Past) → IsLegal c past
-    → is_tidy (observed c past) ≡ true → comes_before c (observed c past) a b ≡ true
-    → effect_by past b.queue b.number b.unit ≡ Some before
-    → (first : Past) × (effect_by before a.queue a.number a.unit ≡ Some first)
-comes_first c past a b before h d e f = elim (or_cases (ends_before c (observed c past) a b) (is_earlier_unit a b) e) [
-  | inl x ↦ ended_before c past a b before h d x f
-  | inr x ↦ unit_earlier c past a b before h x f
-]
-
--- ---- of a trace that a history explains
-
-pub sure_explained : (c : ConfigNumbers) (past : Past) (trace : List Seen) (q j u : ℕ)
-    → Explains no_options c past trace → is_tidy trace ≡ true → is_sure c trace q j u ≡ true
-    → (before : Past) × (effect_by past q j u ≡ Some before)
-sure_explained c past trace q j u x d e =
-    let h = all_explained c past trace x in
-    sure_effect c past q j u h.0 (ap is_tidy h.1 ∙ d) (ap (λ (t : List Seen). is_sure c t q j u) h.1 ∙ e)
-
-pub order_explained : (c : ConfigNumbers) (past : Past) (trace : List Seen) (a b : EffectName) (before : Past)
-    → Explains no_options c past trace → is_tidy trace ≡ true → comes_before c trace a b ≡ true
-    → effect_by past b.queue b.number b.unit ≡ Some before
-    → (first : Past) × (effect_by before a.queue a.number a.unit ≡ Some first)
-order_explained c past trace a b before x d e f =
-    let h = all_explained c past trace x in
-    comes_first c past a b before h.0 (ap is_tidy h.1 ∙ d) (ap (λ (t : List Seen). comes_before c t a b) h.1 ∙ e) f

@@ -25,10 +25,13 @@ use Rattle.trace.specs.Observed.{observed}
 use Rattle.trace.specs.declared.seen.Seen.{Seen}
 use Rattle.refutation_laws.specs.Effects.{effect_by, is_effect_of}
 use Rattle.refutation_laws.specs.Lines.{is_tidy, published_in}
-use Rattle.refutation_laws.specs.Slices.{EffectName, comes_before, effects_in, effects_of_command, is_covered, is_named}
-use Rattle.refutation_laws.specs.Slices.{may_be_found, may_write, none_else, surely_writes, ticket_of, told_units}
+use Rattle.refutation_laws.specs.EffectOrders.{EffectName, comes_before}
+use Rattle.refutation_laws.specs.Slices.{effects_in, effects_of_command, is_covered, is_named}
+use Rattle.refutation_laws.specs.Slices.{may_be_found, may_write, none_else, surely_writes, ticket_of}
+use Rattle.refutation_laws.specs.Told.{told_units}
 use Rattle.refutation_laws.proofs.EffectBlocks.{EffectHere}
-use Rattle.refutation_laws.proofs.LineOrders.{comes_first}
+use Rattle.refutation_laws.proofs.HeadOrders.{HasSlots}
+use Rattle.refutation_laws.proofs.OrderRules.{comes_first}
 use Rattle.refutation_laws.proofs.Lines.{published_seen}
 use Rattle.refutation_laws.proofs.NamedEffects.{EffectBy, by_effect, by_here, by_later, effect_of, effect_said}
 use Rattle.refutation_laws.proofs.NamedEffects.{entries_of}
@@ -143,10 +146,11 @@ pub record OutLast (c : ConfigNumbers) (trace : List Seen) (names : List EffectN
 
 -- it can't have left what fits
 pub outside_clash : (c : ConfigNumbers) (whole past : Past) (b : BlockLine) (names : List EffectName) (l : ℕ)
-    (fits : List ℕ → Bool) → IsLegal c whole → is_tidy (observed c whole) ≡ true → Part whole (Entry.Block b ∷ past)
+    (fits : List ℕ → Bool) → HasSlots c → IsLegal c whole → is_tidy (observed c whole) ≡ true
+    → Part whole (Entry.Block b ∷ past)
     → b.effect ≡ true → OutLast c (observed c whole) names past l
     → none_else c (observed c whole) names (name_at past b) l fits ≡ true → fits (value past l) ≡ true → ⊥
-outside_clash c whole past b names l fits h d p e o none fit =
+outside_clash c whole past b names l fits slots h d p e o none fit =
     let trace = observed c whole in
     let n = name_at past b in
     let y = o.by in
@@ -161,7 +165,7 @@ outside_clash c whole past b names l fits h d p e o none fit =
     (effects_in c trace) y none (in_effects c whole y o.before h there) in
     let not_after : comes_before c trace n y ≡ true → ⊥ =
     λ q.
-    let f = comes_first c whole n y o.before h d q there in
+    let f = comes_first c whole n y o.before slots h d q there in
     let g = from_before c past y n o.before f.0 legal o.is f.1 in
     none_some past n first f.0 g in
     let not_covered : is_covered c trace l y n ≡ true → ⊥ =
@@ -170,8 +174,8 @@ outside_clash c whole past b names l fits h d p e o none fit =
     (effects_in c trace) q in
     let s = and_parts (surely_writes c trace w.0 l && comes_before c trace y w.0) (comes_before c trace w.0 n) w.2 in
     let t = and_parts (surely_writes c trace w.0 l) (comes_before c trace y w.0) s.0 in
-    let f = comes_first c whole w.0 n past h d s.1 x.there in
-    let g = comes_first c whole y w.0 f.0 h d t.1 (to_whole c whole past w.0 f.0 h tail f.1) in
+    let f = comes_first c whole w.0 n past slots h d s.1 x.there in
+    let g = comes_first c whole y w.0 f.0 slots h d t.1 (to_whole c whole past w.0 f.0 h tail f.1) in
     none_some f.0 y (o.last w.0 f.0 f.1 t.0) g.0 g.1 in
     refuted (is_named names y) (may_write c trace y l) (comes_before c trace n y) (is_covered c trace l y n)
     (fits (write_data (ticket_of trace y) l)) all o.out o.may not_after not_covered

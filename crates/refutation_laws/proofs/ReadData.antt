@@ -34,7 +34,7 @@ use Rattle.host_laws.proofs.Elements.{same_some}
 use Rattle.host_laws.proofs.Later.{block_facts, effect_at}
 use Rattle.trace.specs.Observed.{observed}
 use Rattle.trace.specs.declared.seen.ReapedLine.{ReapedLine}
-use Rattle.refutation_laws.specs.Slices.{told_ticket, told_units}
+use Rattle.refutation_laws.specs.Told.{told_ticket, told_units}
 use Rattle.refutation_laws.proofs.Answered.{DoneCommand, TicketOf}
 use Rattle.refutation_laws.proofs.ToldTickets.{same_units}
 

@@ -7,7 +7,8 @@ use Rattle.std.proofs.lemmas.Bool.{and_parts, and_from, cases_Bool, cases_eq, co
 use Rattle.nvme_model.proofs.Cut.{clash}
 use Rattle.host_laws.proofs.Elements.{In, in_any, in_left, in_right, same_some}
 use Rattle.slice_orders.specs.Orders.{has, written}
-use Rattle.refutation_laws.specs.Slices.{EffectName, each_once, is_named, numbers_where, same_effect}
+use Rattle.refutation_laws.specs.EffectOrders.{EffectName}
+use Rattle.refutation_laws.specs.Slices.{each_once, is_named, numbers_where, same_effect}
 
 -- ---- elements
 

@@ -7,6 +7,7 @@ use Rattle.std.proofs.Common.{◌⊎◌, arith, eqb, slice_get}
 use Rattle.std.specs.List.{filter, flat_map, list_any, range_with_len}
 use Rattle.std.proofs.lemmas.Bool.{and_parts, and_from, cases_Bool, cond-false, cond-true}
 use Rattle.nvme_model.specs.Array.{has_block, zeros}
+use Rattle.nvme_model.specs.Config.{is_accepted}
 use Rattle.nvme_model.specs.History.{Past}
 use Rattle.nvme_model.specs.Legal.{IsLegal}
 use Rattle.nvme_model.specs.Open.{unit_range}
@@ -31,12 +32,17 @@ use Rattle.trace.proofs.Beginnings.{all_explained}
 use Rattle.trace.specs.declared.seen.Seen.{Seen}
 use Rattle.refutation_laws.specs.Effects.{is_effect_of}
 use Rattle.refutation_laws.specs.Lines.{is_tidy}
-use Rattle.refutation_laws.specs.Slices.{EffectName, answer_of, comes_before, effects_of_command, is_block_of, is_named}
-use Rattle.refutation_laws.specs.Slices.{is_piece, is_sure, numbers_where, piece_of, range_of}
-use Rattle.refutation_laws.specs.Slices.{says_done, says_failed, slice_names, slice_of, surely_writes, ticket_of}
+use Rattle.refutation_laws.specs.EffectOrders.{EffectName, comes_before}
+use Rattle.refutation_laws.specs.Slices.{answer_of, effects_of_command, is_block_of, is_named}
+use Rattle.refutation_laws.specs.Slices.{is_piece, numbers_where, piece_of, range_of}
+use Rattle.refutation_laws.specs.Told.{is_sure}
+use Rattle.refutation_laws.specs.Slices.{says_failed, slice_names, slice_of, surely_writes, ticket_of}
+use Rattle.refutation_laws.specs.Told.{says_done}
 use Rattle.refutation_laws.proofs.EffectBlocks.{EffectHere, nothing_written, value_behind, yes_here}
 use Rattle.refutation_laws.proofs.KeptEffects.{HoldsAt, Kept, differs_met, done_is, finds_met, kept_written}
-use Rattle.refutation_laws.proofs.LineOrders.{comes_first, sure_effect}
+use Rattle.refutation_laws.proofs.HeadOrders.{HasSlots, has_slots}
+use Rattle.refutation_laws.proofs.LineOrders.{sure_effect}
+use Rattle.refutation_laws.proofs.OrderRules.{comes_first}
 use Rattle.refutation_laws.proofs.NamedEffects.{effect_says, none_before}
 use Rattle.refutation_laws.proofs.Outside.{OutLast, Part, effect_here, effect_named, from_before, name_at, named_here}
 use Rattle.refutation_laws.proofs.Outside.{outside_clash, part_legal, part_tail, to_whole}
@@ -150,7 +156,8 @@ same_with c trace names blocks past b e w = carried c trace names blocks past (E
 
 -- ---- a Block entry that is an effect
 
-module _ (c : ConfigNumbers) (whole : Past) (names : List EffectName) (blocks : List ℕ) (legal : IsLegal c whole)
+module _ (c : ConfigNumbers) (whole : Past) (names : List EffectName) (blocks : List ℕ) (slots : HasSlots c)
+    (legal : IsLegal c whole)
     (tidy : is_tidy (observed c whole) ≡ true) (distinct : AreDistinct names)
     (pieces : (n : EffectName) → In n names → is_piece c (observed c whole) n ≡ true) (past : Past) (b : BlockLine)
     (part : Part whole (Entry.Block b ∷ past)) (marked : b.effect ≡ true) where
@@ -413,10 +420,10 @@ module _ (c : ConfigNumbers) (whole : Past) (names : List EffectName) (blocks : 
       (and_from _ _
       (finds_met c whole (name_at past b) past b (unit_range past b.ticket b.unit) blocks names
       (held_by zeros slice so_far) (OutLast c (observed c whole) names past) (kept i e s) w.holds
-      (λ l fits o none fit. outside_clash c whole past b names l fits legal tidy part marked o none fit))
+      (λ l fits o none fit. outside_clash c whole past b names l fits slots legal tidy part marked o none fit))
       (differs_met c whole (name_at past b) past b (unit_range past b.ticket b.unit) blocks names
       (held_by zeros slice so_far) (OutLast c (observed c whole) names past) (kept i e s) w.holds
-      (λ l fits o none fit. outside_clash c whole past b names l fits legal tidy part marked o none fit)))
+      (λ l fits o none fit. outside_clash c whole past b names l fits slots legal tidy part marked o none fit)))
     where
       not_there : has so_far i ≡ false
       not_there = go (cases_Bool (has so_far i))
@@ -447,7 +454,7 @@ module _ (c : ConfigNumbers) (whole : Past) (names : List EffectName) (blocks : 
               let same = same_some x.1 (name_at past b) (slice_get names i) at_i e in
               let before : comes_before c (observed c whole) (name_at past b) y.0 ≡ true =
               subst (λ (z : EffectName). comes_before c (observed c whole) z y.0 ≡ true) same x.4 in
-              let q = comes_first c whole (name_at past b) y.0 y.1 legal tidy before
+              let q = comes_first c whole (name_at past b) y.0 y.1 slots legal tidy before
               (to_whole c whole past y.0 y.1 legal tail y.3) in
               absurd (not_first q.0 (from_before c past y.0 (name_at past b) y.1 q.0 legal_past y.3 q.1))
 
@@ -513,38 +520,38 @@ module _ (c : ConfigNumbers) (whole : Past) (names : List EffectName) (blocks : 
 
 -- ---- the whole
 
-walk : (c : ConfigNumbers) (whole : Past) (names : List EffectName) (blocks : List ℕ) → IsLegal c whole
+walk : (c : ConfigNumbers) (whole : Past) (names : List EffectName) (blocks : List ℕ) → HasSlots c → IsLegal c whole
     → is_tidy (observed c whole) ≡ true → AreDistinct names
     → ((n : EffectName) → In n names → is_piece c (observed c whole) n ≡ true) → (past : Past) → Part whole past
     → Walk c (observed c whole) names blocks past
-walk c whole names blocks h d x pieces [] p =
+walk c whole names blocks s h d x pieces [] p =
     record {
       way = tt;
       all = λ i m. absurd m;
-      sure = λ i n before e s f. absurd (let g : None ≡ Some before = f in cc);
+      sure = λ i n before e z f. absurd (let g : None ≡ Some before = f in cc);
       holds = λ l m. inl refl;
     }
-walk c whole names blocks h d x pieces (Entry.Block b ∷ past) p =
-    by b.effect refl (walk c whole names blocks h d x pieces past (part_tail whole (Entry.Block b) past p))
+walk c whole names blocks s h d x pieces (Entry.Block b ∷ past) p =
+    by b.effect refl (walk c whole names blocks s h d x pieces past (part_tail whole (Entry.Block b) past p))
   where
     by : (z : Bool) → b.effect ≡ z → Walk c (observed c whole) names blocks past
         → Walk c (observed c whole) names blocks (Entry.Block b ∷ past)
-    by true e w = next c whole names blocks h d x pieces past b p e w
+    by true e w = next c whole names blocks s h d x pieces past b p e w
     by false e w = same_with c (observed c whole) names blocks past b e w
-walk c whole names blocks h d x pieces (Entry.Publish e ∷ past) p =
-    let w = walk c whole names blocks h d x pieces past (part_tail whole (Entry.Publish e) past p) in
+walk c whole names blocks s h d x pieces (Entry.Publish e ∷ past) p =
+    let w = walk c whole names blocks s h d x pieces past (part_tail whole (Entry.Publish e) past p) in
     carried c (observed c whole) names blocks past (Entry.Publish e) refl (λ n. refl) (λ l. refl) w
-walk c whole names blocks h d x pieces (Entry.Fetch e ∷ past) p =
-    let w = walk c whole names blocks h d x pieces past (part_tail whole (Entry.Fetch e) past p) in
+walk c whole names blocks s h d x pieces (Entry.Fetch e ∷ past) p =
+    let w = walk c whole names blocks s h d x pieces past (part_tail whole (Entry.Fetch e) past p) in
     carried c (observed c whole) names blocks past (Entry.Fetch e) refl (λ n. refl) (λ l. refl) w
-walk c whole names blocks h d x pieces (Entry.Grant e ∷ past) p =
-    let w = walk c whole names blocks h d x pieces past (part_tail whole (Entry.Grant e) past p) in
+walk c whole names blocks s h d x pieces (Entry.Grant e ∷ past) p =
+    let w = walk c whole names blocks s h d x pieces past (part_tail whole (Entry.Grant e) past p) in
     carried c (observed c whole) names blocks past (Entry.Grant e) refl (λ n. refl) (λ l. refl) w
-walk c whole names blocks h d x pieces (Entry.Post e ∷ past) p =
-    let w = walk c whole names blocks h d x pieces past (part_tail whole (Entry.Post e) past p) in
+walk c whole names blocks s h d x pieces (Entry.Post e ∷ past) p =
+    let w = walk c whole names blocks s h d x pieces past (part_tail whole (Entry.Post e) past p) in
     carried c (observed c whole) names blocks past (Entry.Post e) refl (λ n. refl) (λ l. refl) w
-walk c whole names blocks h d x pieces (Entry.Reap e ∷ past) p =
-    let w = walk c whole names blocks h d x pieces past (part_tail whole (Entry.Reap e) past p) in
+walk c whole names blocks s h d x pieces (Entry.Reap e ∷ past) p =
+    let w = walk c whole names blocks s h d x pieces past (part_tail whole (Entry.Reap e) past p) in
     carried c (observed c whole) names blocks past (Entry.Reap e) refl (λ n. refl) (λ l. refl) w
 
 -- each sure piece is there
@@ -571,26 +578,26 @@ all_sure c whole names blocks h d w =
         has_in (made c (observed c whole) names whole) i (w.sure i x.0 there.0 x.1 sure there.1)
 
 -- so the effects of a slice are an order of it
-an_order : (c : ConfigNumbers) (whole : Past) (commands : List (ℕ × ℕ)) (blocks : List ℕ) → IsLegal c whole
+an_order : (c : ConfigNumbers) (whole : Past) (commands : List (ℕ × ℕ)) (blocks : List ℕ) → HasSlots c → IsLegal c whole
     → is_tidy (observed c whole) ≡ true
     → IsOrder zeros (slice_of c (observed c whole) commands blocks)
     (made c (observed c whole) (slice_names c (observed c whole) commands) whole)
-an_order c whole commands blocks h d =
+an_order c whole commands blocks s h d =
     let trace = observed c whole in
     let some = flat_map (λ k. effects_of_command c trace k.0 k.1) commands in
     let kept = filter (is_piece c trace) some in
     let names = slice_names c trace commands in
-    let w = walk c whole names blocks h d (once_distinct kept)
+    let w = walk c whole names blocks s h d (once_distinct kept)
     (λ n i. filter_holds (is_piece c trace) some n (of_once kept n i)) whole ([], refl) in
     (w.way, all_sure c whole names blocks h d w)
 
 pub order_of_history : (c : ConfigNumbers) (past : Past) (trace : List Seen) (commands : List (ℕ × ℕ)) (blocks : List ℕ)
-    → Explains no_options c past trace → is_tidy trace ≡ true
+    → is_accepted c ≡ true → Explains no_options c past trace → is_tidy trace ≡ true
     → (order : List ℕ) × IsOrder zeros (slice_of c trace commands blocks) order
-order_of_history c past trace commands blocks x d =
+order_of_history c past trace commands blocks a x d =
     let h = all_explained c past trace x in (
       made c (observed c past) (slice_names c (observed c past) commands) past,
       subst (λ (t : List Seen). IsOrder zeros (slice_of c t commands blocks)
           (made c (observed c past) (slice_names c (observed c past) commands) past)) h.1
-          (an_order c past commands blocks h.0 (ap is_tidy h.1 ∙ d)),
+          (an_order c past commands blocks (has_slots c a) h.0 (ap is_tidy h.1 ∙ d)),
     )

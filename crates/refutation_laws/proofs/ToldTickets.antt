@@ -31,7 +31,7 @@ use Rattle.nvme_model.proofs.NextPost.{not_pair}
 use Rattle.host_laws.proofs.Later.{block_facts}
 use Rattle.host_laws.proofs.Verdicts.{VerdictIs, fuse, no_command}
 use Rattle.refutation_laws.specs.Lines.{published_in}
-use Rattle.refutation_laws.specs.Slices.{told_ticket, told_verdict}
+use Rattle.refutation_laws.specs.Told.{told_ticket, told_verdict}
 use Rattle.refutation_laws.proofs.NamedEffects.{EffectBy, effect_of, entries_of}
 use Rattle.trace.specs.declared.seen.Seen.{Seen}
 

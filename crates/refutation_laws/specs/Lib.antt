@@ -2,4 +2,6 @@ pub mod Lines
 pub mod MayAnswer
 pub mod LineRules
 pub mod Effects
+pub mod Told
+pub mod EffectOrders
 pub mod Slices

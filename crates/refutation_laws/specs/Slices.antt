@@ -1,101 +1,36 @@
--- What a trace tells of the effects of its commands. A command is named by its submission queue and the number there,
--- from 0, of its first entry; its units by their numbers, from 0.
+-- Slices of a trace: a few of its commands' effects, in which order they may have been, and what each of them found.
 use Rattle.std.specs.List.{filter, flat_map, list_all, list_any, range_with_len}
-use Rattle.std.specs.Prelude.{Bool, List, None, Option, Some, [], drop, false, get_or, if◌then◌else◌, is_none, length}
-use Rattle.std.specs.Prelude.{map}
-use Rattle.std.specs.Prelude.{nat_lt, not, slice_get, suc, take, true, ℕ, ◌&&◌, ◌*◌, ◌-◌, ◌==◌, ◌||◌, ◌∷◌}
+use Rattle.std.specs.Prelude.{Bool, List, None, Option, Some, [], drop, false, if◌then◌else◌, is_none, length, map, not}
+use Rattle.std.specs.Prelude.{slice_get, suc, take, true, ℕ, ◌&&◌, ◌*◌, ◌-◌, ◌==◌, ◌||◌, ◌∷◌}
 use Rattle.std.specs.Str.{bytes_eq}
 use Rattle.nvme_model.specs.Array.{blocks_from, has_block}
-use Rattle.nvme_model.specs.EntryBytes.{slba, sqe_fields}
-use Rattle.nvme_model.specs.Operations.{compare_data, has_write, is_pair, op, units, write_data}
-use Rattle.nvme_model.specs.Statuses.{compare_failure, is_success, missing_fused, same_status}
+use Rattle.nvme_model.specs.EntryBytes.{slba}
+use Rattle.nvme_model.specs.Operations.{compare_data, has_write, op, write_data}
+use Rattle.nvme_model.specs.Statuses.{is_success}
 use Rattle.nvme_model.specs.Tickets.{Ticket, first_fields}
 use Rattle.nvme_model.specs.Verdict.{is_in}
 use Rattle.nvme_model.specs.declared.array.Range.{Range}
 use Rattle.nvme_model.specs.declared.config.ConfigNumbers.{ConfigNumbers}
 use Rattle.nvme_model.specs.declared.operation.Op.{Op}
-use Rattle.nvme_model.specs.declared.status.Verdict.{Verdict}
-use Rattle.nvme_model.specs.declared.submission.Submission.{Submission}
 use Rattle.host_laws.specs.Calls.{cqe_status}
 use Rattle.trace.specs.declared.seen.ReapedLine.{ReapedLine}
 use Rattle.trace.specs.declared.seen.Seen.{Seen}
 use Rattle.slice_orders.specs.Pieces.{Held, Piece, Slice}
-use Rattle.refutation_laws.specs.Lines.{answer_in, before_entry, published_in}
-
--- The verdict of an entry with this FUSE where nothing is wrong with it: the first of a pair takes its second along,
--- and a second isn't taken by itself.
-abbrev pub told_verdict : ℕ → Verdict
-told_verdict fuse =
-    if fuse == 1 then Verdict.Pair
-    else (if fuse == 2 then Verdict.SingleFailed missing_fused else Verdict.Single)
-
--- The ticket that takes entry j of submission queue q, with the next entry, where nothing is wrong with it.
-abbrev pub told_ticket : List Seen → ℕ → ℕ → Ticket
-told_ticket trace q j =
-    let none : Submission = record { entry = []; payload = [] } in
-    let first = get_or (published_in trace q) j none in
-    record {
-      queue = q;
-      commands = first ∷ get_or (published_in trace q) (suc j) none ∷ [];
-      verdict = told_verdict (sqe_fields first.entry).fuse;
-    }
-
--- The units of a command, as its entry has them.
-abbrev pub told_units : ConfigNumbers → List Seen → ℕ → ℕ → List Range
-told_units c trace q j = units c (told_ticket trace q j)
-
--- success was seen
-abbrev pub says_done : Option ReapedLine → Bool
-says_done None = false
-says_done (Some r) = is_success (cqe_status r.cqe)
-
--- Compare Failure was seen
-abbrev pub says_differs : Option ReapedLine → Bool
-says_differs None = false
-says_differs (Some r) = same_status (cqe_status r.cqe) compare_failure
-
--- The effect of unit u of the command stands in each history of the trace: the command was answered by success, or it
--- has one unit and was answered by Compare Failure.
-abbrev pub is_sure : ConfigNumbers → List Seen → ℕ → ℕ → ℕ → Bool
-is_sure c trace q j u =
-    let n = length (told_units c trace q j) in
-    let a = answer_in trace q j in
-    nat_lt u n && (says_done a || (says_differs a && (n == 1)))
-
--- ---- the order of effects
-
--- An effect by the submission queue of its command, the command's number there, and its unit's.
-pub record EffectName : Type 0 where
-  pub queue : ℕ
-  pub number : ℕ
-  pub unit : ℕ
-
--- The number of the last entry of a command: of a pair its second.
-abbrev pub last_entry : List Seen → ℕ → ℕ → ℕ
-last_entry trace q j = if is_pair (op (told_ticket trace q j)) then suc j else j
-
--- The effect a is sure before effect b's command is published.
-abbrev pub ends_before : ConfigNumbers → List Seen → EffectName → EffectName → Bool
-ends_before c trace a b =
-    is_sure c (before_entry trace b.queue (last_entry trace b.queue b.number)) a.queue a.number a.unit
-
--- Both are of one command, and a is of the earlier unit.
-abbrev pub is_earlier_unit : EffectName → EffectName → Bool
-is_earlier_unit a b = (a.queue == b.queue) && (a.number == b.number) && nat_lt a.unit b.unit
-
--- In each history that shows this trace effect a stands before effect b, where it has b.
-abbrev pub comes_before : ConfigNumbers → List Seen → EffectName → EffectName → Bool
-comes_before c trace a b = ends_before c trace a b || is_earlier_unit a b
+use Rattle.refutation_laws.specs.EffectOrders.{EffectName, comes_before}
+use Rattle.refutation_laws.specs.Lines.{answer_in, published_in}
+use Rattle.refutation_laws.specs.Told.{is_sure, says_differs, says_done, told_ticket, told_units}
 
 -- ---- what effects do to blocks
 
--- the ticket, the answer and the blocks of an effect, as the trace tells them
+-- The ticket of an effect, as the trace tells it.
 abbrev pub ticket_of : List Seen → EffectName → Ticket
 ticket_of trace n = told_ticket trace n.queue n.number
 
+-- The line that answers an effect's command, where the trace has one.
 abbrev pub answer_of : List Seen → EffectName → Option ReapedLine
 answer_of trace n = answer_in trace n.queue n.number
 
+-- The blocks of an effect's unit, where its command has that unit.
 abbrev pub range_of : ConfigNumbers → List Seen → EffectName → Option Range
 range_of c trace n = slice_get (told_units c trace n.queue n.number) n.unit
 

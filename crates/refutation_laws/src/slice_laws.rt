@@ -3,6 +3,7 @@
 
 ghost use Rattle.std.specs.Prelude.{◌++◌, ◌≡◌, ◌≤◌, ◌∷◌, List, None, Some, length, true, ℕ};
 ghost use Rattle.nvme_model.specs.Array.{zeros};
+ghost use Rattle.nvme_model.specs.Config.{is_accepted};
 ghost use Rattle.nvme_model.specs.History.{Past};
 ghost use Rattle.nvme_model.specs.Legal.{IsLegal};
 ghost use Rattle.nvme_model.specs.Queues.{published_entries};
@@ -14,7 +15,9 @@ ghost use Rattle.trace.specs.Options.{no_options};
 ghost use Rattle.trace.specs.declared.seen.Seen.{Seen};
 ghost use Rattle.refutation_laws.specs.Effects.{effect_by, is_effect_of};
 ghost use Rattle.refutation_laws.specs.Lines.{is_tidy};
-ghost use Rattle.refutation_laws.specs.Slices.{EffectName, comes_before, is_sure, slice_of};
+ghost use Rattle.refutation_laws.specs.EffectOrders.{EffectName, comes_before};
+ghost use Rattle.refutation_laws.specs.Slices.{slice_of};
+ghost use Rattle.refutation_laws.specs.Told.{is_sure};
 ghost use Rattle.slice_orders.specs.Layers.{has_no_order};
 ghost use Rattle.slice_orders.specs.Orders.{IsOrder};
 
@@ -34,13 +37,15 @@ pub fn each_unit_has_one_effect()
 
 /// Each history that explains a trace has the effects that are sure, and keeps the order that the trace's lines tell:
 /// an effect whose command was answered before another's command was published stands before it, and so does that of an
-/// earlier unit of the same command.
+/// earlier unit of the same command, and one that was there when a completion was posted whose SQHD says that the
+/// other's command wasn't fetched.
 pub fn effects_keep_the_order_of_lines()
     ensures sure { (c : ConfigNumbers) (past : Past) (trace : List Seen) (q j u : ℕ) →
         Explains no_options c past trace → is_tidy trace ≡ true → is_sure c trace q j u ≡ true →
         (before : Past) × (effect_by past q j u ≡ Some before) }
     ensures order { (c : ConfigNumbers) (past : Past) (trace : List Seen) (a b : EffectName) (before : Past) →
-        Explains no_options c past trace → is_tidy trace ≡ true → comes_before c trace a b ≡ true →
+        is_accepted c ≡ true → Explains no_options c past trace → is_tidy trace ≡ true →
+        comes_before c trace a b ≡ true →
         effect_by past b.queue b.number b.unit ≡ Some before →
         (first : Past) × (effect_by before a.queue a.number a.unit ≡ Some first) }
 {}
@@ -49,9 +54,10 @@ pub fn effects_keep_the_order_of_lines()
 /// explains a trace of which a slice has no order.
 pub fn each_history_gives_an_order()
     ensures order { (c : ConfigNumbers) (past : Past) (trace : List Seen) (commands : List (ℕ × ℕ)) (blocks : List ℕ) →
-        Explains no_options c past trace → is_tidy trace ≡ true →
+        is_accepted c ≡ true → Explains no_options c past trace → is_tidy trace ≡ true →
         (order : List ℕ) × IsOrder zeros (slice_of c trace commands blocks) order }
     ensures refuted { (c : ConfigNumbers) (past : Past) (trace : List Seen) (commands : List (ℕ × ℕ))
-        (blocks : List ℕ) → is_tidy trace ≡ true → has_no_order zeros (slice_of c trace commands blocks) ≡ true →
+        (blocks : List ℕ) → is_accepted c ≡ true → is_tidy trace ≡ true →
+        has_no_order zeros (slice_of c trace commands blocks) ≡ true →
         Explains no_options c past trace → ⊥ }
 {}

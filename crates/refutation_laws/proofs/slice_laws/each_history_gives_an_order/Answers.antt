@@ -5,7 +5,7 @@ use Rattle.refutation_laws.proofs.slice_laws.each_history_gives_an_order.Goals a
 pub returns : goal.returns
 returns c = record {
   order = order_of_history;
-  refuted = λ n past trace commands blocks d e x.
-      let r = order_of_history n past trace commands blocks x d in
+  refuted = λ n past trace commands blocks a d e x.
+      let r = order_of_history n past trace commands blocks a x d in
       no_order _ _ r.0 e r.1;
 }
