@@ -27,3 +27,7 @@ pub mod Postings
 pub mod PostOrders
 pub mod HeadOrders
 pub mod OrderRules
+pub mod ReadLines
+pub mod ReadBits
+pub mod ReadRules
+pub mod ExampleReads

@@ -17,7 +17,7 @@ field_below : (first count i v : ℕ) (bytes : List ℕ) → i < first → field
 field_below first count i v bytes l =
     ap (λ (xs : List ℕ). little_endian (take ((first + count) - first) xs)) (drop-set-lt first bytes i v l)
 
-field_above : (first count k v : ℕ) (bytes : List ℕ) → (first + count) - first ≤ k
+pub field_above : (first count k v : ℕ) (bytes : List ℕ) → (first + count) - first ≤ k
     → field first count (set bytes (first + k) v) ≡ field first count bytes
 field_above first count k v bytes l =
     ap (λ (xs : List ℕ). little_endian (take ((first + count) - first) xs)) (drop-set-add first bytes k v)

@@ -12,11 +12,13 @@ ghost use Rattle.nvme_model.specs.declared.entry.PostLine.{PostLine};
 ghost use Rattle.host_laws.specs.Calls.{IsEntryWaiting, reaped_post};
 ghost use Rattle.trace.specs.Observed.{Explains, observed};
 ghost use Rattle.trace.specs.Options.{no_options};
+ghost use Rattle.trace.specs.declared.options.TraceOptions.{TraceOptions};
 ghost use Rattle.trace.specs.declared.seen.ReapedLine.{ReapedLine};
 ghost use Rattle.trace.specs.declared.seen.Seen.{Seen};
 ghost use Rattle.refutation_laws.specs.LineRules.{has_wrong_head, has_wrong_phase, has_wrong_status, is_bad_line, names_no_entry};
 ghost use Rattle.refutation_laws.specs.LineRules.{has_wrong_batch, has_wrong_data, has_wrong_second, names_wrong_queue, sets_unused_bits};
 ghost use Rattle.refutation_laws.specs.Lines.{answer_in, is_tidy, published_in, reaped_in, waiting_in};
+ghost use Rattle.refutation_laws.specs.ReadRules.{is_bad_read_line};
 
 /// What hosts saw of a legal history tells which entries are published and how many completions are reaped. Where no
 /// CID is published again while it waits, it tells also which entries wait, and by which bytes and data each other one
@@ -96,4 +98,14 @@ pub fn no_publish_has_a_wrong_batch()
 pub fn no_history_explains_a_bad_line()
     ensures { (c : ConfigNumbers) (past : Past) (more trace : List Seen) → is_accepted c ≡ true →
         is_bad_line c trace ≡ true → Explains no_options c past (more ++ trace) → ⊥ }
+{}
+
+// ---- as options read a trace
+
+/// The same of a trace as options read it that know what all blocks held at the beginning: a line is bad by the rules
+/// that ask only for what they compare.
+pub fn no_history_explains_a_bad_line_as_read()
+    ensures { (o : TraceOptions) (c : ConfigNumbers) (past : Past) (more trace : List Seen) →
+        o.contents_unknown ≡ false → is_accepted c ≡ true → is_bad_read_line o c trace ≡ true →
+        Explains o c past (more ++ trace) → ⊥ }
 {}
