@@ -87,7 +87,8 @@ first_allowed c past q j p s h f e n x w g =
           (subst (λ (o : Option Submission). answers_first (verdict_at c s o) (sqe_fields s.entry) st ≡ true) next says)
       | inr m ↦
           or_right
-          (answers_first (verdict_at c s (slice_get (published_in (observed c past) q) (suc j))) (sqe_fields s.entry) st)
+          (answers_first (verdict_at c s (slice_get (published_in (observed c past) q) (suc j)))
+          (sqe_fields s.entry) st)
           _
           (and_from _ _ (ap not m.1)
           (subst (λ (o : Option Submission). answers_first (verdict_at c s o) (sqe_fields s.entry) st ≡ true) m.0 says))
@@ -96,7 +97,8 @@ first_allowed c past q j p s h f e n x w g =
 second_allowed : (c : ConfigNumbers) (past : Past) (q i : ℕ) (p : PostLine) (s : Submission) → IsLegal c past
     → (f : PostOf c past q (suc i) p) → slice_get (published_entries past q) (suc i) ≡ Some s
     → (n : Seen past f.at.before p.ticket q) → (x : Second f.at.before p.ticket (suc i) s)
-    → FetchOf c past (Tickets.ticket past p.ticket).verdict q i → may_answer_second c (observed c past) q (suc i) s (cqe_status p.cqe) ≡ true
+    → FetchOf c past (Tickets.ticket past p.ticket).verdict q i
+    → may_answer_second c (observed c past) q (suc i) s (cqe_status p.cqe) ≡ true
 second_allowed c past q i p s h f e n x g =
     let before = f.at.before in
     let k = Tickets.ticket before p.ticket in

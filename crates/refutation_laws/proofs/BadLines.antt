@@ -35,7 +35,8 @@ line_right c past [] a h e = refl
 line_right c past (Seen.Published p ∷ trace) a h e = batch_right c p trace (last_publish c past p trace h e)
 line_right c past (Seen.Reaped r ∷ trace) a h e =
     let l = last_reap c past r trace h e in
-    none_of _ _ (none_of _ _ (none_of _ _ (bits_unset c r trace l) (phase_right c r trace l)) (queue_right c r trace a l))
+    none_of _ _ (none_of _ _ (none_of _ _ (bits_unset c r trace l) (phase_right c r trace l))
+    (queue_right c r trace a l))
     (tidy_rules c r trace a l)
 
 -- also where more lines follow

@@ -6,7 +6,8 @@ use Rattle.nvme_model.specs.declared.submission.Submission.{Submission}
 use Rattle.trace.specs.declared.seen.ReapedLine.{ReapedLine}
 use Rattle.trace.specs.declared.seen.Seen.{Seen}
 use Rattle.refutation_laws.specs.Lines.{is_tidy}
-use Rattle.refutation_laws.specs.LineRules.{has_wrong_batch, has_wrong_head, has_wrong_phase, is_bad_line, names_no_entry}
+use Rattle.refutation_laws.specs.LineRules.{has_wrong_batch, has_wrong_head, has_wrong_phase, is_bad_line}
+use Rattle.refutation_laws.specs.LineRules.{names_no_entry}
 use Rattle.refutation_laws.specs.LineRules.{names_wrong_queue, sets_unused_bits}
 
 -- a Reap of completion queue n without data

@@ -62,8 +62,8 @@ not_together more trace q j e = lt-leb _ _ (ends_there more trace q j e)
 
 -- ---- the front of the queue
 
--- a Fetch with this verdict found these, from number n on: the second is what is published there now, or none was and it
--- came by a later line
+-- a Fetch with this verdict found these, from number n on: the second is what is published there now, or none was and
+-- it came by a later line
 pub record FetchOf (c : ConfigNumbers) (past : Past) (v : Verdict) (q n : ℕ) : Type 0 where
   pub first : Submission
   pub next : Option Submission
@@ -121,7 +121,8 @@ found c past later before f q n is h d fq count = by_waiting (drop n (published_
         f.verdict ≡ verdict_of c.atomic c.blocks (cids_in_use before q) (map item_of x)) e
         (subst (λ (k : ℕ). f.verdict ≡ verdict_of c.atomic c.blocks (cids_in_use before q)
         (map item_of (drop k (published_entries before q)))) count
-        (subst (λ (x : ℕ). f.verdict ≡ verdict_of c.atomic c.blocks (cids_in_use before x) (map item_of (waiting before x)))
+        (subst (λ (x : ℕ). f.verdict
+        ≡ verdict_of c.atomic c.blocks (cids_in_use before x) (map item_of (waiting before x)))
         fq (fetch_verdict c before f here)))
 
     now : (i : ℕ) (s : Submission) → slice_get (published_entries before q) i ≡ Some s
@@ -132,7 +133,14 @@ found c past later before f q n is h d fq count = by_waiting (drop n (published_
 
     by_waiting : (w : List Submission) → drop n (published_entries before q) ≡ w → FetchOf c past f.verdict q n
     by_waiting [] e =
-        absurd (omega (arith, some, count, length-drop n (published_entries before q), ap (λ (x : List Submission). length x) e))
+        absurd (omega (
+          arith,
+          some,
+          count,
+          length-drop n (published_entries before q),
+          ap (λ
+              (x : List Submission). length x) e,
+        ))
     by_waiting (a ∷ []) e =
         let one = get_drop n (published_entries before q) (a ∷ []) 0 n a e (omega arith) refl in
         let full : length (published_in (observed c before) q) ≡ suc n =

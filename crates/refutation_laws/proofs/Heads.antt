@@ -55,7 +55,8 @@ heads c (Entry.Post p ∷ past) n =
     ((posted_answer past p, fetched_count past (Tickets.ticket past p.ticket).queue) ∷ []) []
 heads c (_ ∷ past) n = heads c past n
 
-heads_map : (c : ConfigNumbers) (past : Past) (n : ℕ) → map (λ (h : Head). h.0) (heads c past n) ≡ posted_answers c past n
+heads_map : (c : ConfigNumbers) (past : Past) (n : ℕ)
+    → map (λ (h : Head). h.0) (heads c past n) ≡ posted_answers c past n
 heads_map c [] n = refl
 heads_map c (Entry.Post p ∷ past) n =
     map-append (λ (h : Head). h.0) (heads c past n)
@@ -161,11 +162,13 @@ head_is c (Entry.Post p ∷ past) n i h s l e =
     new true (suc m) f = absurd (let g : None ≡ Some h = f in cc)
     new true zero f =
         let x : Head = (posted_answer past p, fetched_count past (Tickets.ticket past p.ticket).queue) in
-        subst (λ (y : Head). HeadIs c (Entry.Post p ∷ past) y) (same_some x h (Some x) refl f) (posted_head c past p s l)
+        subst (λ (y : Head). HeadIs c (Entry.Post p ∷ past) y) (same_some x h (Some x) refl f)
+        (posted_head c past p s l)
 head_is c (Entry.Fetch f ∷ past) n i h s l e =
     head_on c (Entry.Fetch f) past h (omega arith) (head_is c past n i h s (follows c past (Entry.Fetch f) l).before e)
 head_is c (Entry.Publish f ∷ past) n i h s l e =
-    head_on c (Entry.Publish f) past h (omega arith) (head_is c past n i h s (follows c past (Entry.Publish f) l).before e)
+    head_on c (Entry.Publish f) past h (omega arith) (head_is c past n i h s (follows c past
+    (Entry.Publish f) l).before e)
 head_is c (Entry.Grant f ∷ past) n i h s l e =
     head_on c (Entry.Grant f) past h (omega arith) (head_is c past n i h s (follows c past (Entry.Grant f) l).before e)
 head_is c (Entry.Block f ∷ past) n i h s l e =

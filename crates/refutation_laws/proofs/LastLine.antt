@@ -1,5 +1,6 @@
 -- The newest line of a trace is the newest Publish or Reap of each history that explains it.
-use Rattle.std.proofs.Common.{refl, Bool, cond, eqb, eqb-true, false, None, Option, Some, slice_get, true, ◌&&◌, ◌≡◌, List, [], ◌∷◌, ◌∙◌, ap, ap₂, subst, sym}
+use Rattle.std.proofs.Common.{refl, Bool, cond, eqb, eqb-true, false, None, Option, Some, slice_get, true, ◌&&◌, ◌≡◌}
+use Rattle.std.proofs.Common.{List, [], ◌∷◌, ◌∙◌, ap, ap₂, subst, sym}
 use Rattle.std.proofs.lemmas.Bool.{and_parts}
 use Rattle.nvme_model.specs.Completions.{reaped_count}
 use Rattle.nvme_model.specs.History.{Past}
@@ -112,7 +113,8 @@ pub record AnswerOf (c : ConfigNumbers) (past : Past) (r : ReapLine) (x : ReapAn
   pub post : answer.post ≡ x.post
 
 pub reaped_answer : (c : ConfigNumbers) (past : Past) (r : ReapLine) (x : ReapAnswers c past r) → AnswerOf c past r x
-reaped_answer c past r x = by_answer (slice_get (posted_answers c past r.queue) (reaped_count past r.queue)) refl x.reaped
+reaped_answer c past r x = by_answer (slice_get (posted_answers c past r.queue)
+    (reaped_count past r.queue)) refl x.reaped
   where
     by_answer : (o : Option PostedAnswer) → slice_get (posted_answers c past r.queue) (reaped_count past r.queue) ≡ o
         → post_if x.queue x.number o (reaped_post c past x.queue x.number) ≡ Some x.post → AnswerOf c past r x

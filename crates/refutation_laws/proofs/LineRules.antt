@@ -1,5 +1,6 @@
 -- No legal history's newest line breaks a rule of lines.
-use Rattle.std.proofs.Common.{length, ◌-◌, Bool, Some, is_none, subst, true, eqb, eqb-true, nat_lt, refl, ap₂, ◌||◌, ◌≡◌, ◌%◌, ◌*◌, ◌+◌, ◌/◌, ◌∙◌, ◌≤◌, List, ap, arith, eq-eqb, false, not, ℕ, sym}
+use Rattle.std.proofs.Common.{length, ◌-◌, Bool, Some, is_none, subst, true, eqb, eqb-true, nat_lt, refl, ap₂, ◌||◌}
+use Rattle.std.proofs.Common.{◌≡◌, ◌%◌, ◌*◌, ◌+◌, ◌/◌, ◌∙◌, ◌≤◌, List, ap, arith, eq-eqb, false, not, ℕ, sym}
 use Rattle.nvme_model.specs.Completions.{phase, reaped_count}
 use Rattle.std.proofs.lemmas.Bool.{le-ltb, ltb-false}
 use Rattle.nvme_model.specs.Config.{completion_queue, config_fault, is_accepted}
@@ -16,7 +17,8 @@ use Rattle.nvme_model.proofs.Rules.{follows}
 use Rattle.host_laws.proofs.Statuses.{phase_small}
 use Rattle.trace.specs.declared.seen.ReapedLine.{ReapedLine}
 use Rattle.trace.specs.declared.seen.Seen.{Seen}
-use Rattle.refutation_laws.specs.LineRules.{has_wrong_batch, has_wrong_phase, names_no_entry, names_wrong_queue, sets_unused_bits}
+use Rattle.refutation_laws.specs.LineRules.{has_wrong_batch, has_wrong_phase, names_no_entry, names_wrong_queue}
+use Rattle.refutation_laws.specs.LineRules.{sets_unused_bits}
 use Rattle.refutation_laws.specs.Lines.{answered, is_tidy, reaped_in}
 use Rattle.refutation_laws.proofs.LastLine.{LastPublish, LastReap, answers, reap_of}
 use Rattle.refutation_laws.proofs.Lines.{answers_one, none_is, reaped_seen}

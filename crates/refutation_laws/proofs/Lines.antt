@@ -1,6 +1,7 @@
 -- A trace tells which entries are published, which wait, and which were answered by what.
 use Rattle.std.proofs.Common.{◌≡◌, ℕ, zero, suc, ◌+◌, ◌<◌, Bool, true, false, ◌&&◌, cond, List, [], ◌∷◌, ◌++◌, length}
-use Rattle.std.proofs.Common.{refl, sym, ap, ap₂, ◌∙◌, subst, Option, Some, None, inl, inr, arith, eq-eqb, eqb, eqb-true}
+use Rattle.std.proofs.Common.{refl, sym, ap, ap₂, ◌∙◌, subst, Option, Some, None, inl, inr, arith, eq-eqb, eqb}
+use Rattle.std.proofs.Common.{eqb-true}
 use Rattle.std.proofs.Common.{ltb-true, nat_lt, slice_get, is_none}
 use Rattle.std.proofs.lemmas.Bool.{and_parts, and_from, cases_Bool, cond-true, cond-false}
 use Rattle.nvme_model.specs.Completions.{reaped_count}
@@ -169,7 +170,8 @@ batch_adds book q j (x ∷ batch) (suc m) s h e =
 abbrev pub FindsWaiting : ConfigNumbers → Past → Type 0
 FindsWaiting c past = (q cid j : ℕ) → IsEntryWaiting c past q cid j → waiting_in (observed c past) q cid ≡ Some j
 
-waits_published : (c : ConfigNumbers) (past : Past) (p : PublishLine) → is_tidy (observed c (Entry.Publish p ∷ past)) ≡ true
+waits_published : (c : ConfigNumbers) (past : Past) (p : PublishLine)
+    → is_tidy (observed c (Entry.Publish p ∷ past)) ≡ true
     → FindsWaiting c past → FindsWaiting c (Entry.Publish p ∷ past)
 waits_published c past p d ih q cid j w =
     let t = tidy_publish (observed c past) p d in
@@ -283,7 +285,8 @@ number_is : (i j : ℕ) (o : Option ℕ) → o ≡ Some i → is_number j o ≡ 
 number_is i j o e = ap (is_number j) e
 
 answers_reaped : (c : ConfigNumbers) (past : Past) (r : ReapLine) → IsLegal c (Entry.Reap r ∷ past)
-    → is_tidy (observed c past) ≡ true → (q j : ℕ) → AnswersAs (answer_in (observed c past) q j) (reaped_post c past q j)
+    → is_tidy (observed c past) ≡ true → (q j : ℕ)
+    → AnswersAs (answer_in (observed c past) q j) (reaped_post c past q j)
     → AnswersAs (answer_in (observed c (Entry.Reap r ∷ past)) q j) (reaped_post c (Entry.Reap r ∷ past) q j)
 answers_reaped c past r h d q j ih =
     let x = reap_answers c past r h in

@@ -1,5 +1,6 @@
 -- A completion that a controller posted sets no unused bit, however options read it.
-use Rattle.std.proofs.Common.{◌≡◌, ℕ, ◌+◌, ◌*◌, ◌/◌, ◌%◌, ◌<◌, ◌≤◌, Bool, true, false, ◌&&◌, cond, List, [], ◌∷◌, refl, sym, ap}
+use Rattle.std.proofs.Common.{◌≡◌, ℕ, ◌+◌, ◌*◌, ◌/◌, ◌%◌, ◌<◌, ◌≤◌, Bool, true, false, ◌&&◌, cond, List, [], ◌∷◌, refl}
+use Rattle.std.proofs.Common.{sym, ap}
 use Rattle.std.proofs.Common.{◌∙◌, arith, eq-eqb, get_or, length, set}
 use Rattle.std.proofs.lemmas.Bool.{and_from}
 use Rattle.nvme_model.specs.Completions.{phase, posted_completions}
@@ -157,20 +158,14 @@ no_sqhd true bytes x =
       high = x.high;
     }
 
+clean_is : (bytes : List ℕ) → CleanBytes bytes → is_clean bytes ≡ true
+clean_is bytes x = ap is_clean x.is ∙ clean_sixteen x.a x.b x.c x.d x.e x.f x.l x.m x.low x.high
+
 clean_read : (o : TraceOptions) (bytes : List ℕ) → CleanBytes bytes → is_clean (read_completion o bytes) ≡ true
 clean_read o bytes x =
     let i = o.ignored in
-    let s = one_status o.statuses_any bytes x in
-    let d = no_dnr i.dnr (with_one_status o.statuses_any bytes) s in
-    let m = no_more i.more (without_dnr i.dnr (with_one_status o.statuses_any bytes)) d in
-    let r = no_crd i.crd (without_more i.more (without_dnr i.dnr (with_one_status o.statuses_any bytes))) m in
-    let w = no_dw0 i.dw0
-    (without_crd i.crd (without_more i.more (without_dnr i.dnr (with_one_status o.statuses_any bytes)))) r in
-    let v = no_dw1 i.dw1 (without_dw0 i.dw0
-    (without_crd i.crd (without_more i.more (without_dnr i.dnr (with_one_status o.statuses_any bytes))))) w in
-    let y = no_sqhd i.sqhd (without_dw1 i.dw1 (without_dw0 i.dw0
-    (without_crd i.crd (without_more i.more (without_dnr i.dnr (with_one_status o.statuses_any bytes)))))) v in
-    ap is_clean y.is ∙ clean_sixteen y.a y.b y.c y.d y.e y.f y.l y.m y.low y.high
+    clean_is (read_completion o bytes) (no_sqhd i.sqhd _ (no_dw1 i.dw1 _ (no_dw0 i.dw0 _ (no_crd i.crd _
+    (no_more i.more _ (no_dnr i.dnr _ (one_status o.statuses_any bytes x)))))))
 
 posted_clean : (h q cid p : ℕ) (s : Status) → p ≤ 1 → Narrow s → CleanBytes (cqe_bytes h q cid p s)
 posted_clean h q cid p s small n =

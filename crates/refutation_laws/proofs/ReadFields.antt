@@ -3,7 +3,8 @@
 use Rattle.std.proofs.Common.{◌≡◌, ℕ, ◌+◌, ◌-◌, ◌*◌, ◌/◌, ◌%◌, ◌<◌, ◌≤◌, Bool, true, false, ◌&&◌, cond, List, []}
 use Rattle.std.proofs.Common.{◌∷◌, length, refl, sym, ap, ap₂, ◌∙◌, arith, set, take, drop, get_or, inl, inr}
 use Rattle.std.proofs.lemmas.Bool.{cases_lt}
-use Rattle.std.proofs.lemmas.List.{drop-set-add, drop-set-lt, get_or-drop, get_or-set_other, get_or-set_same, set_past, take-set-le}
+use Rattle.std.proofs.lemmas.List.{drop-set-add, drop-set-lt, get_or-drop, get_or-set_other, get_or-set_same, set_past}
+use Rattle.std.proofs.lemmas.List.{take-set-le}
 use Rattle.nvme_model.specs.EntryBytes.{cqe_fields, field, little_endian}
 use Rattle.host_laws.specs.Calls.{cqe_status}
 use Rattle.host_laws.proofs.Verdicts.{of_codes}
@@ -13,7 +14,8 @@ use Rattle.trace.specs.declared.options.TraceOptions.{TraceOptions}
 
 -- ---- a byte elsewhere
 
-field_below : (first count i v : ℕ) (bytes : List ℕ) → i < first → field first count (set bytes i v) ≡ field first count bytes
+field_below : (first count i v : ℕ) (bytes : List ℕ) → i < first
+    → field first count (set bytes i v) ≡ field first count bytes
 field_below first count i v bytes l =
     ap (λ (xs : List ℕ). little_endian (take ((first + count) - first) xs)) (drop-set-lt first bytes i v l)
 
@@ -161,7 +163,8 @@ high_less bytes v k e =
           record {
             phase = ap (λ (x : ℕ). x % 2) now ∙ (w.0 ∙ sym (ap (λ (x : ℕ). x % 2) (word_is bytes)));
             status = ap (λ (x : ℕ). of_codes ((x / 512) % 8) ((x / 2) % 256)) now
-                ∙ (ap₂ of_codes w.1 w.2 ∙ sym (ap (λ (x : ℕ). of_codes ((x / 512) % 8) ((x / 2) % 256)) (word_is bytes)));
+                ∙ (ap₂ of_codes w.1 w.2
+                ∙ sym (ap (λ (x : ℕ). of_codes ((x / 512) % 8) ((x / 2) % 256)) (word_is bytes)));
           }
     ]
 

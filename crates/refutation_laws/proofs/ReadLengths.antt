@@ -112,10 +112,12 @@ units_length : (c : ConfigNumbers) (past : Past) (t k : ℕ) (rs : List Range) �
     → length (flat_map (unit_data past t) (numbered_units k rs)) ≡ 512 * sum_by (λ r. r.blocks) rs
 units_length c past t k [] h a = refl
 units_length c past t k (r ∷ rs) h a =
-    let x = and_parts (is_some (effect past t k)) (list_all (λ u. is_some (effect past t u.0)) (numbered_units (suc k) rs))
+    let x = and_parts (is_some (effect past t k)) (list_all (λ u. is_some (effect past t u.0)) (numbered_units
+    (suc k) rs))
     a in
     let more = flat_map (unit_data past t) (numbered_units (suc k) rs) in
-    let all : length (flat_map (unit_data past t) (numbered_units k (r ∷ rs))) ≡ length (unit_data past t (k, r) ++ more)
+    let all : length (flat_map (unit_data past t) (numbered_units k (r ∷ rs)))
+    ≡ length (unit_data past t (k, r) ++ more)
     = refl in
     let sum : sum_by (λ (z : Range). z.blocks) (r ∷ rs) ≡ r.blocks + sum_by (λ (z : Range). z.blocks) rs =
     sum_by-cons (λ (z : Range). z.blocks) r rs in

@@ -13,7 +13,8 @@ use Rattle.trace.specs.declared.seen.ReapedLine.{ReapedLine}
 use Rattle.trace.specs.declared.seen.Seen.{Seen}
 use Rattle.trace.proofs.Pointwise.{one_behind, same_length}
 use Rattle.refutation_laws.specs.LineRules.{count_to, least_fetched, next_at, next_whole}
-use Rattle.refutation_laws.specs.Lines.{answer_in, answered, before_entry, has_free_cids, is_number, is_tidy, published_in}
+use Rattle.refutation_laws.specs.Lines.{answer_in, answered, before_entry, has_free_cids, is_number, is_tidy}
+use Rattle.refutation_laws.specs.Lines.{published_in}
 use Rattle.refutation_laws.specs.Lines.{reaped_in, waiting_in, with_batch}
 use Rattle.refutation_laws.specs.MayAnswer.{are_together, has_fuse, parts_pair}
 use Rattle.refutation_laws.proofs.ReadFields.{cid_read, field_above, sqhd_read, sqid_read}
@@ -199,7 +200,8 @@ pub same_together : (o : TraceOptions) (seen trace : List Seen) (q j : ℕ) → 
     → are_together seen q j ≡ are_together trace q j
 same_together o seen trace q j h =
     ap (λ (n : ℕ). nat_le n j)
-    (same_count o (before_entry seen q (suc j)) (before_entry trace q (suc j)) q (before_reads o seen trace q (suc j) h))
+    (same_count o (before_entry seen q (suc j)) (before_entry trace q (suc j)) q (before_reads o seen trace q
+    (suc j) h))
 
 fuse_at : (o : TraceOptions) (f i : ℕ) (es ts : List Submission) → Pointwise (ReadsEntry o) es ts
     → has_fuse f (slice_get es i) ≡ has_fuse f (slice_get ts i)
@@ -241,7 +243,8 @@ same_least o c (Seen.Reaped r ∷ seen) (Seen.Reaped t ∷ trace) q kept h =
     λ n. ap₂ (λ (b : Bool) (k : ℕ). cond b (next_at c.sq_size (suc n) k) n) (same_parts o seen trace q n h.1) head in
     ap₂ (λ (a b : ℕ). cond (eqb a q) b (least_fetched c seen q)) sqid
     (ap (next_whole c seen q (cqe_fields r.cqe).sqhd) at
-    ∙ whole (next_at c.sq_size (max (least_fetched c trace q) (count_to (answered trace t.cqe))) (cqe_fields t.cqe).sqhd))
+    ∙ whole (next_at c.sq_size (max (least_fetched c trace q) (count_to (answered trace t.cqe)))
+    (cqe_fields t.cqe).sqhd))
     ∙ ap (λ (b : ℕ). cond (eqb (cqe_fields t.cqe).sqid q)
     (next_whole c trace q (cqe_fields t.cqe).sqhd
     (next_at c.sq_size (max (least_fetched c trace q) (count_to (answered trace t.cqe))) (cqe_fields t.cqe).sqhd)) b)

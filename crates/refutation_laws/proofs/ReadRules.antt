@@ -1,6 +1,7 @@
 -- No history explains a trace with a bad line, as options read it.
 use Rattle.std.proofs.Common.{◌≡◌, ℕ, zero, suc, Bool, true, false, ◌&&◌, ◌||◌, not, cond}
-use Rattle.std.proofs.Common.{List, [], ◌∷◌, ◌++◌, Option, None, Some, length, slice_get, refl, sym, ap, ap₂, ◌∙◌, subst}
+use Rattle.std.proofs.Common.{List, [], ◌∷◌, ◌++◌, Option, None, Some, length, slice_get, refl, sym, ap, ap₂, ◌∙◌}
+use Rattle.std.proofs.Common.{subst}
 use Rattle.std.proofs.Common.{eqb, nat_lt, inl, inr, is_none, ◌-◌}
 use Rattle.nvme_model.specs.Completions.{phase}
 use Rattle.nvme_model.specs.Config.{completion_queue, is_accepted}
@@ -37,7 +38,8 @@ use Rattle.refutation_laws.proofs.LineOrders.{beginning}
 use Rattle.refutation_laws.proofs.LineRules.{batch_right, entry_right, none_of, phase_right, queue_right}
 use Rattle.refutation_laws.proofs.ReadBits.{bits_read}
 use Rattle.refutation_laws.proofs.ReadFields.{cid_read, phase_read, sqhd_read, sqid_read, status_read}
-use Rattle.refutation_laws.proofs.ReadLines.{AnswersRead, Reads, published_reads, same_answer, same_answered, same_count}
+use Rattle.refutation_laws.proofs.ReadLines.{AnswersRead, Reads, published_reads, same_answer, same_answered}
+use Rattle.refutation_laws.proofs.ReadLines.{same_count}
 use Rattle.refutation_laws.proofs.ReadLines.{same_least, same_parts, same_reaped, same_tidy, same_together}
 use Rattle.refutation_laws.proofs.Seconds.{second_right}
 
@@ -64,7 +66,8 @@ same_head : (o : TraceOptions) (c : ConfigNumbers) (seen trace : List Seen) (r t
 same_head o c seen trace r t kept h g =
     let sqid = sqid_read o r.cqe t.cqe g.1 in
     let head = sqhd_read o r.cqe t.cqe kept g.1 in
-    let count : length (published_in seen (cqe_fields r.cqe).sqid) ≡ length (published_in trace (cqe_fields t.cqe).sqid) =
+    let count : length (published_in seen (cqe_fields r.cqe).sqid)
+    ≡ length (published_in trace (cqe_fields t.cqe).sqid) =
     same_count o seen trace (cqe_fields r.cqe).sqid h ∙ ap (λ (q : ℕ). length (published_in trace q)) sqid in
     let least : least_fetched c (Seen.Reaped r ∷ seen) (cqe_fields r.cqe).sqid
     ≡ least_fetched c (Seen.Reaped t ∷ trace) (cqe_fields t.cqe).sqid =
@@ -166,7 +169,8 @@ same_wrong o c seen trace r t kept h g =
 read_batch : (o : TraceOptions) (c : ConfigNumbers) (p t : PublishLine) → p.queue ≡ t.queue
     → Pointwise (ReadsEntry o) p.batch t.batch → has_wrong_batch c p ≡ has_wrong_batch c t
 read_batch o c p t q b =
-    ap₂ (λ (n k : ℕ). no_queue c n || eqb k 0 || nat_lt (c.sq_size - 1) k) q (same_length (ReadsEntry o) p.batch t.batch b)
+    ap₂ (λ (n k : ℕ). no_queue c n || eqb k 0 || nat_lt (c.sq_size - 1) k) q (same_length
+    (ReadsEntry o) p.batch t.batch b)
 
 -- the rules that ask which entry is answered
 entry_rules : (o : TraceOptions) (c : ConfigNumbers) (seen trace : List Seen) (r t : ReapedLine) → is_accepted c ≡ true
@@ -197,7 +201,8 @@ read_reap : (o : TraceOptions) (c : ConfigNumbers) (seen trace : List Seen) (r t
     → LastReap c r seen → Reads o seen trace → ReadsReap o r t
     → is_bad_read_line o c (Seen.Reaped t ∷ trace) ≡ false
 read_reap o c seen trace r t a l h g =
-    none_of _ _ (none_of _ _ (none_of _ _ (ap (λ (b : List ℕ). not (is_clean b)) (sym g.1) ∙ ap not (bits_read o c r seen l))
+    none_of _ _ (none_of _ _ (none_of _ _ (ap (λ (b : List ℕ). not (is_clean b)) (sym g.1)
+    ∙ ap not (bits_read o c r seen l))
     (sym (same_phase o c seen trace r t h g) ∙ phase_right c r seen l))
     (sym (same_queue o c r t g) ∙ queue_right c r seen a l)) (entry_rules o c seen trace r t a l h g)
 

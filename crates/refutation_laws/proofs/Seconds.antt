@@ -56,10 +56,12 @@ go_together c past q i p r h f x y =
 second_by : (c : ConfigNumbers) (before : Past) (r : ReapedLine) (q i : ℕ) (p : PostLine)
     → IsLegal c (Entry.Reap (reap_of r) ∷ before) → is_tidy (observed c before) ≡ true
     → reaped_post c (Entry.Reap (reap_of r) ∷ before) q (suc i) ≡ Some p
-    → (has_fuse 1 (slice_get (published_entries before q) i) && has_fuse 2 (slice_get (published_entries before q) (suc i))
+    → (has_fuse 1 (slice_get (published_entries before q) i) && has_fuse 2 (slice_get (published_entries before q)
+    (suc i))
     && is_apart_from (answer_in (observed c before) q i) (cqe_status p.cqe)) ≡ false
 second_by c before r q i p h d y =
-    go (has_fuse 1 (slice_get (published_entries before q) i)) (has_fuse 2 (slice_get (published_entries before q) (suc i)))
+    go (has_fuse 1 (slice_get (published_entries before q) i)) (has_fuse 2 (slice_get (published_entries before q)
+    (suc i)))
     refl refl
   where
     past : Past
@@ -81,7 +83,8 @@ second_by c before r q i p h d y =
     go true false x z = refl
     go true true x z =
         by_answer (answer_in (observed c before) q i) refl
-        (fused_by past q i (slice_get (published_entries before q) i) (slice_get (published_entries before q) (suc i)) refl
+        (fused_by past q i (slice_get (published_entries before q) i) (slice_get (published_entries before q)
+        (suc i)) refl
         refl x z)
 
 second_of : (c : ConfigNumbers) (before : Past) (r : ReapedLine) (q j : ℕ) (p : PostLine)

@@ -11,7 +11,8 @@ use Rattle.nvme_model.specs.History.{Past}
 use Rattle.nvme_model.specs.Operations.{has_compare, is_pair, op, op_by, op_of_fields}
 use Rattle.nvme_model.specs.Owed.{all_done, all_ended, owed, owed_after, owed_by, some_no}
 use Rattle.nvme_model.specs.Statuses.{cid_conflict, compare_failure, data_transfer_error, failed_fused, invalid_field}
-use Rattle.nvme_model.specs.Statuses.{invalid_namespace, invalid_opcode, is_success, missing_fused, out_of_range, same_status}
+use Rattle.nvme_model.specs.Statuses.{invalid_namespace, invalid_opcode, is_success, missing_fused, out_of_range}
+use Rattle.nvme_model.specs.Statuses.{same_status}
 use Rattle.nvme_model.specs.Statuses.{success, unit_exceeded}
 use Rattle.nvme_model.specs.Tables.{first_row}
 use Rattle.nvme_model.specs.Tickets.{Ticket, cids_in_use, command, first_fields, posts_of}
@@ -175,7 +176,8 @@ pair_by c a b conflict first second =
 
 free_pair : (c : ConfigNumbers) (in_use : List ℕ) (a b : Submission) → is_in (cid_of a) in_use ≡ false
     → is_in (cid_of b) in_use ≡ false
-    → pair_fault c.atomic c.blocks in_use (item_of a) (item_of b) ≡ pair_fault c.atomic c.blocks [] (item_of a) (item_of b)
+    → pair_fault c.atomic c.blocks in_use (item_of a) (item_of b)
+    ≡ pair_fault c.atomic c.blocks [] (item_of a) (item_of b)
 free_pair c in_use a b h g =
     let first = command_fault c.blocks in_use (item_of a) in
     let second = command_fault c.blocks in_use (item_of b) in

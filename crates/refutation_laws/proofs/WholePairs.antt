@@ -114,7 +114,8 @@ not_parted c past v q i n f e p = elim (cases_lt (taken_entries v) 2) [
             m ∙ (ap (slice_get (published_entries past q)) at ∙ listed i p.first p.there) in
             let same : v ≡ verdict_at c f.first (Some p.first) = f.verdict ∙ ap (verdict_at c f.first) next in
             let fuse_two : eqb (fuse p.first) 2 ≡ true =
-            second_fuse (verdict_at c f.first (Some p.first)) f.first p.first p.first (sym (ap taken_entries same) ∙ takes)
+            second_fuse (verdict_at c f.first (Some p.first)) f.first p.first p.first (sym (ap taken_entries same)
+            ∙ takes)
             (verdict_is c [] f.first (p.first ∷ [])) refl in
             let z : true ≡ false = sym fuse_two ∙ one_not_two (fuse p.first) p.first_fuse in cc
         | inr m ↦
@@ -139,9 +140,12 @@ count_is_whole c past later before q (suc i) is h d e =
       | inl x ↦
           let f = newest_fetch before q i e in
           let whole : past ≡ (later ++ f.later) ++ (Entry.Fetch f.fetch ∷ f.before) =
-          is ∙ (ap (λ (p : Past). later ++ p) f.is ∙ sym (append_assoc later f.later (Entry.Fetch f.fetch ∷ f.before))) in
-          let g = found c past (later ++ f.later) f.before f.fetch q (fetched_count f.before q) whole h d f.queue refl in
-          absurd (not_parted c past f.fetch.verdict q i (fetched_count f.before q) g f.count (parted (observed c past) q i x))
+          is ∙ (ap (λ (p : Past). later ++ p) f.is
+          ∙ sym (append_assoc later f.later (Entry.Fetch f.fetch ∷ f.before))) in
+          let g = found c past (later ++ f.later) f.before f.fetch q
+          (fetched_count f.before q) whole h d f.queue refl in
+          absurd (not_parted c past f.fetch.verdict q i (fetched_count f.before q) g f.count (parted
+          (observed c past) q i x))
     ]
 
 pub head_is_whole : (c : ConfigNumbers) (past : Past) (n i : ℕ) (h : Head) → FitsHead c → IsLegal c past

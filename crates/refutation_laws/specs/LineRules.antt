@@ -1,5 +1,6 @@
 -- What the newest line of a trace can't be in any history that explains it, whatever the controller did unseen.
-use Rattle.std.specs.Prelude.{Bool, List, None, Option, Some, [], if◌then◌else◌, is_none, length, max, nat_lt, not, slice_get, suc, zero}
+use Rattle.std.specs.Prelude.{Bool, List, None, Option, Some, [], if◌then◌else◌, is_none, length, max, nat_lt, not}
+use Rattle.std.specs.Prelude.{slice_get, suc, zero}
 use Rattle.std.specs.Prelude.{ℕ, false}
 use Rattle.std.specs.Prelude.{◌%◌, ◌+◌, ◌&&◌, ◌-◌, ◌==◌, ◌||◌, ◌∷◌}
 use Rattle.nvme_model.specs.Completions.{phase}
@@ -17,7 +18,8 @@ use Rattle.trace.specs.declared.seen.Seen.{Seen}
 use Rattle.refutation_laws.specs.Lines.{answer_in, answered, is_tidy, published_in, reaped_in}
 use Rattle.refutation_laws.specs.MayAnswer.{data_owed, has_fuse, may_answer, parts_pair}
 
--- The completion sets a bit that this profile leaves zero: in DW0 or DW1, the Command Retry Delay, More or Do Not Retry.
+-- The completion sets a bit that this profile leaves zero: in DW0 or DW1, the Command Retry Delay, More or Do Not
+-- Retry.
 abbrev pub sets_unused_bits : ReapedLine → Bool
 sets_unused_bits r = not (is_clean r.cqe)
 
@@ -48,9 +50,9 @@ count_to (Some j) = suc j
 abbrev pub next_whole : ConfigNumbers → List Seen → ℕ → ℕ → ℕ → ℕ
 next_whole c trace q head n = if parts_pair trace q n then next_at c.sq_size (suc n) head else n
 
--- How many entries of submission queue q were fetched, at least, when the newest completion of it that a trace reaps was
--- posted: SQHD says it modulo the slots, the completion's own entry is among them, it was never more before, and no pair
--- is parted.
+-- How many entries of submission queue q were fetched, at least, when the newest completion of it that a trace reaps
+-- was posted: SQHD says it modulo the slots, the completion's own entry is among them, it was never more before, and no
+-- pair is parted.
 abbrev pub least_fetched : ConfigNumbers → List Seen → ℕ → ℕ
 least_fetched c [] q = 0
 least_fetched c (Seen.Published p ∷ trace) q = least_fetched c trace q

@@ -1,5 +1,5 @@
--- Which entry each line of a trace publishes or answers. A trace is the list of its lines, the newest first; an entry is
--- named by its submission queue and its number there, from 0.
+-- Which entry each line of a trace publishes or answers. A trace is the list of its lines, the newest first; an entry
+-- is named by its submission queue and its number there, from 0.
 use Rattle.std.specs.Prelude.{Bool, List, None, Option, Some, [], false, if◌then◌else◌, is_none, length, nat_le, nat_lt}
 use Rattle.std.specs.Prelude.{suc, true, ℕ, ◌&&◌, ◌+◌, ◌++◌, ◌==◌, ◌∷◌}
 use Rattle.nvme_model.specs.EntryBytes.{cqe_fields}

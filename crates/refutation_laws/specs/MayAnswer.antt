@@ -21,16 +21,16 @@ abbrev pub has_fuse : ℕ → Option Submission → Bool
 has_fuse f None = false
 has_fuse f (Some s) = (sqe_fields s.entry).fuse == f
 
--- So many entries of submission queue q end with the first of a pair, whose second the same line published. A Fetch takes
--- both.
+-- So many entries of submission queue q end with the first of a pair, whose second the same line published. A Fetch
+-- takes both.
 abbrev pub parts_pair : List Seen → ℕ → ℕ → Bool
 parts_pair trace q zero = false
 parts_pair trace q (suc i) =
     has_fuse 1 (slice_get (published_in trace q) i) && has_fuse 2 (slice_get (published_in trace q) (suc i))
     && are_together trace q i
 
--- What a Fetch says that finds this entry at the front of its queue, and behind it this one or none, where none of their
--- CIDs is in use.
+-- What a Fetch says that finds this entry at the front of its queue, and behind it this one or none, where none of
+-- their CIDs is in use.
 abbrev pub verdict_at : ConfigNumbers → Submission → Option Submission → Verdict
 verdict_at c first None = verdict_of c.atomic c.blocks [] (item_of first ∷ [])
 verdict_at c first (Some next) = verdict_of c.atomic c.blocks [] (item_of first ∷ item_of next ∷ [])

@@ -15,8 +15,11 @@ ghost use Rattle.trace.specs.Options.{no_options};
 ghost use Rattle.trace.specs.declared.options.TraceOptions.{TraceOptions};
 ghost use Rattle.trace.specs.declared.seen.ReapedLine.{ReapedLine};
 ghost use Rattle.trace.specs.declared.seen.Seen.{Seen};
-ghost use Rattle.refutation_laws.specs.LineRules.{has_wrong_head, has_wrong_phase, has_wrong_status, is_bad_line, names_no_entry};
-ghost use Rattle.refutation_laws.specs.LineRules.{has_wrong_batch, has_wrong_data, has_wrong_second, names_wrong_queue, sets_unused_bits};
+ghost use Rattle.refutation_laws.specs.LineRules.{has_wrong_head, has_wrong_phase};
+ghost use Rattle.refutation_laws.specs.LineRules.{has_wrong_status, is_bad_line, names_no_entry};
+ghost use Rattle.refutation_laws.specs.LineRules.{has_wrong_batch, has_wrong_data};
+ghost use Rattle.refutation_laws.specs.LineRules.{has_wrong_second, names_wrong_queue};
+ghost use Rattle.refutation_laws.specs.LineRules.{sets_unused_bits};
 ghost use Rattle.refutation_laws.specs.Lines.{answer_in, is_tidy, published_in, reaped_in, waiting_in};
 ghost use Rattle.refutation_laws.specs.ReadRules.{is_bad_read_line};
 
