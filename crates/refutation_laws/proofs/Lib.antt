@@ -31,3 +31,4 @@ pub mod ReadLines
 pub mod ReadBits
 pub mod ReadRules
 pub mod ExampleReads
+pub mod Refuted

@@ -6,3 +6,4 @@ pub mod Effects
 pub mod Told
 pub mod EffectOrders
 pub mod Slices
+pub mod Refuted

@@ -2,4 +2,5 @@
 #![tactic(auto)]
 
 pub mod line_laws;
+pub mod refuted_laws;
 pub mod slice_laws;
