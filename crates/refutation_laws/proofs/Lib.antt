@@ -32,3 +32,4 @@ pub mod ReadBits
 pub mod ReadRules
 pub mod ExampleReads
 pub mod Refuted
+pub mod ExampleSlices
