@@ -27,6 +27,14 @@ refutation_lines r =
 abbrev pub refutation_text : Refutation → List ℕ
 refutation_text r = with_feeds (refutation_lines r)
 
+-- the text of the first two lines
+abbrev pub front_text : ℕ → List ℕ
+front_text lines = (codes "refutation" ++ 10 ∷ []) ++ (count_line lines ++ 10 ∷ [])
+
+-- the text of the lines behind them
+abbrev pub slice_text : List ℕ → List (ℕ × ℕ) → List ℕ
+slice_text blocks commands = with_feeds (map block_line blocks) ++ with_feeds (map command_line commands)
+
 -- ---- reading: a text's pieces are what stands before, between and behind its line feeds
 
 -- the number of lines that these words say

@@ -4,7 +4,9 @@
 mod fault;
 mod reading;
 mod refutation;
+mod writing;
 
 pub use crate::fault::RefutationFault;
 pub use crate::reading::read_refutation;
 pub use crate::refutation::Refutation;
+pub use crate::writing::write_refutation;
