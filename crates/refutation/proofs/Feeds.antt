@@ -17,7 +17,7 @@ feeds_append [] ys = refl
 feeds_append (x ∷ xs) ys =
     ap (λ l. x ++ (10 ∷ l)) (feeds_append xs ys) ∙ sym (append_assoc x (10 ∷ with_feeds xs) (with_feeds ys))
 
-feeds_one : (x : List ℕ) → with_feeds (x ∷ []) ≡ x ++ 10 ∷ []
+pub feeds_one : (x : List ℕ) → with_feeds (x ∷ []) ≡ x ++ 10 ∷ []
 unfolding with_feeds
 feeds_one x = refl
 
