@@ -1,9 +1,9 @@
 //! The refutation of a text.
 
-ghost use Rattle.std.specs.Prelude.{◌≡◌, ◌∷◌, [], IfOk, map};
+ghost use Rattle.std.specs.Prelude.{◌≡◌, ◌∷◌, [], IfOk, Ok, map};
 ghost use Rattle.refutation.specs.Reads.{GivesRefutation, TakesLine};
-ghost use Rattle.refutation.specs.Refutations.{of_lines};
-ghost use Rattle.refutation.specs.Texts.{and_line, and_words, count_of, read_all, read_pieces, refutation_in, words_of};
+ghost use Rattle.refutation.specs.Refutations.{IsRefutation, Refutation, of_lines};
+ghost use Rattle.refutation.specs.Texts.{and_line, and_words, count_of, read_all, read_pieces, refutation_in, refutation_text, words_of};
 
 use crate::fault::RefutationFault;
 use crate::refutation::Refutation;
@@ -125,6 +125,13 @@ fn read_all(alloc: Global, pieces: &[&[u8]]) -> Result<Refutation, RefutationFau
     }
 }
 
+fn read_text(alloc: Global, text: &[u8]) -> Result<Refutation, RefutationFault>
+    ensures { GivesRefutation result (refutation_in text.now) }
+{
+    let pieces = split_words(alloc, text, b'\n')?;
+    read_all(alloc, pieces.as_slice())
+}
+
 /// Reads the refutation whose text this is.
 ///
 /// # Errors
@@ -133,7 +140,12 @@ fn read_all(alloc: Global, pieces: &[&[u8]]) -> Result<Refutation, RefutationFau
 /// line feed; `NoMemory` where a growth was refused.
 pub fn read_refutation(alloc: Global, text: &[u8]) -> Result<Refutation, RefutationFault>
     ensures value { GivesRefutation result (refutation_in text.now) }
+
+    // What is read has this text.
+    ensures found { IfOk result (λ r. text.now ≡ refutation_text r) }
+
+    // What has this text is read, unless memory runs out.
+    ensures only { (r : Refutation) → IsRefutation r → text.now ≡ refutation_text r → GivesRefutation result (Ok r) }
 {
-    let pieces = split_words(alloc, text, b'\n')?;
-    read_all(alloc, pieces.as_slice())
+    read_text(alloc, text)
 }

@@ -1,6 +1,7 @@
 //! What is said to refute a trace.
 
-ghost use Rattle.std.specs.Prelude.{◌≡◌, IfOk, OnErr, if◌then◌else◌};
+ghost use Rattle.std.specs.List.{AllByRecursion};
+ghost use Rattle.std.specs.Prelude.{◌≡◌, ◌<◌, ◌^◌, IfOk, OnErr, if◌then◌else◌};
 ghost use Rattle.refutation.specs.Refutations.{IsRefutation, may_add_block, may_add_command, of_lines};
 ghost use Rattle.refutation.specs.Refutations.{is_before, is_behind, last_of, with_block, with_command};
 
@@ -114,5 +115,41 @@ impl Refutation {
         }
         self.commands.push((queue, number))?;
         Ok(true)
+    }
+
+    /// That its numbers rise and have their bits, so that its text is read as it. Does nothing.
+    pub fn fits(&self)
+        ensures { IsRefutation self.now }
+    {
+        blocks_fit(self.blocks.as_slice());
+        commands_fit(self.commands.as_slice());
+        lines_fit(self.lines);
+    }
+}
+
+fn blocks_fit(blocks: &[u64])
+    ensures { AllByRecursion (λ b. b < 2 ^ 64) blocks.now }
+{
+    let _ = blocks;
+}
+
+fn lines_fit(lines: u64)
+    ensures { lines < 2 ^ 64 }
+{
+    let _ = lines;
+}
+
+fn command_fits(queue: u16, number: u64)
+    ensures { (queue < 2 ^ 16) × (number < 2 ^ 64) }
+{
+    let _ = queue;
+    let _ = number;
+}
+
+fn commands_fit(commands: &[(u16, u64)])
+    ensures { AllByRecursion (λ m. (m.0 < 2 ^ 16) × (m.1 < 2 ^ 64)) commands.now }
+{
+    for (queue, number) in commands {
+        command_fits(*queue, *number);
     }
 }

@@ -6,6 +6,7 @@ ghost use Rattle.line_text.specs.Known.{AppendsFront};
 ghost use Rattle.std.specs.List.{join_with_byte};
 ghost use Rattle.line_text.specs.Lines.{with_feeds};
 ghost use Rattle.line_text.specs.Words.{word_text};
+ghost use Rattle.refutation.specs.Refutations.{IsRefutation};
 ghost use Rattle.refutation.specs.Texts.{block_line, command_line, count_line, front_text, refutation_text, slice_text};
 
 use crate::refutation::Refutation;
@@ -108,7 +109,9 @@ pub fn write_refutation<W: Write>(refutation: &Refutation, writer: &mut W) -> Io
         (Appends (W.contents writer.old) (W.contents writer.new) (refutation_text refutation.now)) }
     ensures front { OnErr result
         (AppendsFront (W.contents writer.old) (W.contents writer.new) (refutation_text refutation.now)) }
+    ensures fits { IsRefutation refutation.now }
 {
+    refutation.fits();
     write_front(refutation.lines(), writer)?;
     write_slice(refutation.blocks(), refutation.commands(), writer)
 }
