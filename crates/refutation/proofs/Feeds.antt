@@ -1,5 +1,6 @@
 -- Lines with their line feeds, one after another.
-use Rattle.std.proofs.Common.{List, [], ap, append_assoc, drop, get_or, length, map, refl, sym, take, take-append-drop, ℕ}
+use Rattle.std.proofs.Common.{List, [], ap, append_assoc, drop, get_or, length, map, refl, sym, take, take-append-drop}
+use Rattle.std.proofs.Common.{ℕ}
 use Rattle.std.proofs.Common.{◌+◌, ◌++◌, ◌<◌, ◌∙◌, ◌∷◌, ◌≡◌}
 use Rattle.std.proofs.lemmas.List.{map-append, take_more}
 use Rattle.std.specs.Prelude.{codes}
@@ -40,7 +41,8 @@ module _ {A : Type 0} (f : A → List ℕ) where
       ∙ ap with_feeds (map-append f (take (i + 1) xs) (drop (i + 1) xs))
       ∙ feeds_append (map f (take (i + 1) xs)) (map f (drop (i + 1) xs))
       ∙ ap (λ t. t ++ with_feeds (map f (drop (i + 1) xs))) (feeds_more xs i d l)
-      ∙ append_assoc (with_feeds (map f (take i xs))) (f (get_or xs i d) ++ 10 ∷ []) (with_feeds (map f (drop (i + 1) xs)))
+      ∙ append_assoc (with_feeds (map f (take i xs))) (f (get_or xs i d) ++ 10 ∷ [])
+      (with_feeds (map f (drop (i + 1) xs)))
 
 -- the text of a refutation, by its parts
 pub text_is : (r : Refutation) → refutation_text r ≡ front_text r.lines ++ slice_text r.blocks r.commands

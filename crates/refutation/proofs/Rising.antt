@@ -1,5 +1,6 @@
 -- What rises still does with one more behind its last.
-use Rattle.std.proofs.Common.{Bool, List, None, Option, Some, [], ap, arith, length, refl, slice_get, suc, sym, true, ◌++◌}
+use Rattle.std.proofs.Common.{Bool, List, None, Option, Some, [], ap, arith, length, refl, slice_get, suc, sym, true}
+use Rattle.std.proofs.Common.{◌++◌}
 use Rattle.std.proofs.Common.{◌-◌, ◌∙◌, ◌∷◌, ◌≡◌}
 use Rattle.std.proofs.lemmas.Bool.{and_from, and_parts}
 use Rattle.refutation.specs.Refutations.{is_behind, last_of, rises}

@@ -40,16 +40,21 @@ append_feedless [] ys p q = q
 append_feedless (x ∷ xs) ys p q = (p.0, append_feedless xs ys p.1 q)
 
 count_feedless : (n : ℕ) → n < 2 ^ 64 → Without 10 (count_line n)
-count_feedless n l = append_feedless (codes "lines ") (decimal n) (refl, (refl, (refl, (refl, (refl, (refl, tt)))))) (decimal_feedless n l)
+count_feedless n l =
+    append_feedless (codes "lines ") (decimal n) (refl, (refl, (refl, (refl, (refl, (refl, tt))))))
+    (decimal_feedless n l)
 
 block_feedless : (n : ℕ) → n < 2 ^ 64 → Without 10 (block_line n)
-block_feedless n l = append_feedless (codes "block ") (decimal n) (refl, (refl, (refl, (refl, (refl, (refl, tt)))))) (decimal_feedless n l)
+block_feedless n l =
+    append_feedless (codes "block ") (decimal n) (refl, (refl, (refl, (refl, (refl, (refl, tt))))))
+    (decimal_feedless n l)
 
 command_feedless : (m : ℕ × ℕ) → m.0 < 2 ^ 16 → m.1 < 2 ^ 64 → Without 10 (command_line m)
 command_feedless m k l =
     append_feedless (codes "command ") (decimal m.0 ++ 32 ∷ decimal m.1)
     (refl, (refl, (refl, (refl, (refl, (refl, (refl, (refl, tt))))))))
-    (append_feedless (decimal m.0) (32 ∷ decimal m.1) (decimal_feedless m.0 (omega arith)) (refl, decimal_feedless m.1 l))
+    (append_feedless (decimal m.0) (32 ∷ decimal m.1) (decimal_feedless m.0 (omega arith))
+    (refl, decimal_feedless m.1 l))
 
 -- ---- a text in pieces
 
@@ -90,7 +95,8 @@ pieces_are r is =
       count_feedless r.lines is.lines_fit,
       all_append (Without 10) (map block_line r.blocks) (map command_line r.commands ++ [] ∷ [])
           (blocks_feedless r.blocks is.blocks_fit)
-          (all_append (Without 10) (map command_line r.commands) ([] ∷ []) (commands_feedless r.commands is.commands_fit)
+          (all_append (Without 10) (map command_line r.commands) ([] ∷ [])
+          (commands_feedless r.commands is.commands_fit)
           (tt, tt)),
     )
 
@@ -151,7 +157,8 @@ commands_again : (ms : List (ℕ × ℕ)) (n k : ℕ) (bs : List ℕ) (done : Li
     → rises is_before (last_of done) ms ≡ true → AllByRecursion (λ m. (m.0 < 2 ^ 16) × (m.1 < 2 ^ 64)) ms
     → read_pieces n (record { lines = k; blocks = bs; commands = done }) (map command_line ms ++ [] ∷ [])
     ≡ Ok (record { lines = k; blocks = bs; commands = done ++ ms })
-commands_again [] n k bs done h f = ap (λ l. Ok (record { lines = k; blocks = bs; commands = l })) (sym (append-nil done))
+commands_again [] n k bs done h f =
+    ap (λ l. Ok (record { lines = k; blocks = bs; commands = l })) (sym (append-nil done))
 commands_again (m ∷ ms) n k bs done h f =
     step n (record { lines = k; blocks = bs; commands = done }) (command_line m) (map command_line ms ++ [] ∷ [])
     (not_none (map command_line ms) [])

@@ -140,7 +140,8 @@ rest_is n s r (last ∷ []) h = by (length last == 0) refl h
 rest_is n s r (line ∷ next ∷ pieces) h =
     by (and_line s line) refl h (λ t. rest_is (n + 1) t r (next ∷ pieces))
   where
-    by : (o : Option Refutation) → and_line s line ≡ o → then_read n (λ t. read_pieces (n + 1) t (next ∷ pieces)) o ≡ Ok r
+    by : (o : Option Refutation) → and_line s line ≡ o
+        → then_read n (λ t. read_pieces (n + 1) t (next ∷ pieces)) o ≡ Ok r
         → ((t : Refutation) → read_pieces (n + 1) t (next ∷ pieces) ≡ Ok r → Rest t r (next ∷ pieces))
         → Rest s r (line ∷ next ∷ pieces)
     by None e g f = absurd cc
@@ -151,7 +152,8 @@ rest_is n s r (line ∷ next ∷ pieces) h =
           lines = one.lines ∙ others.lines;
           text = ap (λ l. slice_text s.blocks s.commands ++ l)
               (sym (append_assoc line (10 ∷ []) (join_with_byte 10 (next ∷ pieces))))
-              ∙ sym (append_assoc (slice_text s.blocks s.commands) (line ++ 10 ∷ []) (join_with_byte 10 (next ∷ pieces)))
+              ∙ sym (append_assoc (slice_text s.blocks s.commands) (line ++ 10 ∷ [])
+              (join_with_byte 10 (next ∷ pieces)))
               ∙ ap (λ l. l ++ join_with_byte 10 (next ∷ pieces)) (sym one.text)
               ∙ others.text;
         }
@@ -191,7 +193,8 @@ counted_is count next pieces r h = by (count_of (words_of count)) refl h
         (sym (append_assoc (count_line r.lines) (10 ∷ []) (slice_text r.blocks r.commands)))
         ∙ sym (text_is r)
 
-all_is : (pieces : List (List ℕ)) (r : Refutation) → read_all pieces ≡ Ok r → join_with_byte 10 pieces ≡ refutation_text r
+all_is : (pieces : List (List ℕ)) (r : Refutation) → read_all pieces ≡ Ok r
+    → join_with_byte 10 pieces ≡ refutation_text r
 all_is [] r h = absurd cc
 all_is (head ∷ []) r h = absurd cc
 all_is (head ∷ count ∷ []) r h = by (bytes_eq head (codes "refutation")) h

@@ -3,8 +3,8 @@ use Rattle.std.specs.Prelude.{Bool, List, None, Option, Some, [], length, nat_lt
 use Rattle.std.specs.Prelude.{◌<◌, ◌==◌, ◌^◌, ◌||◌, ◌∷◌, ◌≡◌}
 use Rattle.std.specs.List.{AllByRecursion}
 
--- A refutation: the first so many lines of a trace have no history, for what the last of them is, or for these commands,
--- each a submission queue and its entry there from 0, by what these blocks hold.
+-- A refutation: the first so many lines of a trace have no history, for what the last of them is, or for these
+-- commands, each a submission queue and its entry there from 0, by what these blocks hold.
 pub record Refutation : Type 0 where
   pub lines : ℕ
   pub blocks : List ℕ

@@ -9,12 +9,15 @@ use Rattle.refutation.specs.Refutations.{Refutation, may_add_block, may_add_comm
 
 -- ---- its lines, without their line feeds
 
+-- the line that says how many lines are refuted
 abbrev pub count_line : ℕ → List ℕ
 count_line lines = join_with_byte 32 (codes "lines" ∷ decimal lines ∷ [])
 
+-- the line of a block
 abbrev pub block_line : ℕ → List ℕ
 block_line b = join_with_byte 32 (codes "block" ∷ decimal b ∷ [])
 
+-- the line of a command
 abbrev pub command_line : ℕ × ℕ → List ℕ
 command_line m = join_with_byte 32 (codes "command" ∷ decimal m.0 ∷ decimal m.1 ∷ [])
 

@@ -3,7 +3,8 @@
 ghost use Rattle.std.specs.Prelude.{◌≡◌, ◌∷◌, [], IfOk, Ok, map};
 ghost use Rattle.refutation.specs.Reads.{GivesRefutation, TakesLine};
 ghost use Rattle.refutation.specs.Refutations.{IsRefutation, Refutation, of_lines};
-ghost use Rattle.refutation.specs.Texts.{and_line, and_words, count_of, read_all, read_pieces, refutation_in, refutation_text, words_of};
+ghost use Rattle.refutation.specs.Texts.{and_line, and_words, count_of, read_all, read_pieces, refutation_in};
+ghost use Rattle.refutation.specs.Texts.{refutation_text, words_of};
 
 use crate::fault::RefutationFault;
 use crate::refutation::Refutation;

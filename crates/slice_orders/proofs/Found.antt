@@ -1,9 +1,11 @@
 -- Where layers don't end before one is whole, there is an order.
 use Rattle.std.proofs.Common.{Bool, List, None, Option, Some, [], ap, arith, false, if◌then◌else◌, inl, inr, length}
-use Rattle.std.proofs.Common.{not, refl, slice_get, subst, suc, sym, true, zero, ℕ, ◌+◌, ◌++◌, ◌<◌, ◌≤◌, ◌||◌, ◌∷◌, ◌≡◌, ◌⊎◌}
+use Rattle.std.proofs.Common.{not, refl, slice_get, subst, suc, sym, true, zero, ℕ, ◌+◌, ◌++◌, ◌<◌, ◌≤◌, ◌||◌, ◌∷◌}
+use Rattle.std.proofs.Common.{◌≡◌, ◌⊎◌}
 use Rattle.std.proofs.lemmas.Bool.{and_cases, and_parts, not-false, not-true, or_right, true≢false}
 use Rattle.std.specs.List.{list_any, range_with_len}
-use Rattle.slice_orders.specs.Layers.{ends, has_no_order, is_next, is_same, layer_from, next_layer, with_nexts, with_order}
+use Rattle.slice_orders.specs.Layers.{ends, has_no_order, is_next, is_same, layer_from, next_layer, with_nexts}
+use Rattle.slice_orders.specs.Layers.{with_order}
 use Rattle.slice_orders.specs.Orders.{IsOrder, IsWay, follows_by, has, is_sure, is_whole, may_follow}
 use Rattle.slice_orders.specs.Pieces.{Piece, Slice}
 use Rattle.slice_orders.proofs.Members.{In, all_from, any_in}
@@ -63,8 +65,8 @@ in_more (z ∷ xs) x y h = elim h [
 ]
 
 module _ (blank : List ℕ) (slice : Slice) where
-  ways_order : (k : ℕ) (made : List (List ℕ)) (x : List ℕ) → Ways blank slice k made → IsWay blank slice x → length x ≡ k
-      → Ways blank slice k (with_order blank slice made x)
+  ways_order : (k : ℕ) (made : List (List ℕ)) (x : List ℕ) → Ways blank slice k made → IsWay blank slice x
+      → length x ≡ k → Ways blank slice k (with_order blank slice made x)
   ways_order k made x h w e = step (list_any (is_same blank slice x) made)
     where
       step : (t : Bool) → Ways blank slice k (if t then made else made ++ x ∷ [])

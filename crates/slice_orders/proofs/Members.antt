@@ -51,12 +51,14 @@ any_in p (y ∷ xs) h = elim (or_cases _ _ h) [
 ]
 
 -- the same answer at each element
-pub all_alike : {S : Type 0} (p q : S → Bool) (xs : List S) → ((x : S) → In xs x → p x ≡ q x) → list_all p xs ≡ list_all q xs
+pub all_alike : {S : Type 0} (p q : S → Bool) (xs : List S) → ((x : S) → In xs x → p x ≡ q x)
+    → list_all p xs ≡ list_all q xs
 all_alike p q xs f =
     bool_same _ _ (λ h. all_from q xs (λ x m. sym (f x m) ∙ all_in p xs x h m))
     (λ h. all_from p xs (λ x m. f x m ∙ all_in q xs x h m))
 
-pub any_alike : {S : Type 0} (p q : S → Bool) (xs : List S) → ((x : S) → In xs x → p x ≡ q x) → list_any p xs ≡ list_any q xs
+pub any_alike : {S : Type 0} (p q : S → Bool) (xs : List S) → ((x : S) → In xs x → p x ≡ q x)
+    → list_any p xs ≡ list_any q xs
 any_alike p q xs f =
     bool_same _ _ (λ h. let m = any_in p xs h in any_from q xs m.0 m.1 (sym (f m.0 m.1) ∙ m.2))
     (λ h. let m = any_in q xs h in any_from p xs m.0 m.1 (f m.0 m.1 ∙ m.2))
@@ -81,4 +83,5 @@ pub in_range : (a n k : ℕ) → k < n → In (range_with_len a n) (a + k)
 in_range a zero k l = absurd (omega arith)
 in_range a (suc n) zero l = inl (omega arith)
 in_range a (suc n) (suc k) l =
-    let e : (a + 1) + k ≡ a + suc k = omega arith in inr (subst (In (range_with_len (a + 1) n)) e (in_range (a + 1) n k (omega arith)))
+    let e : (a + 1) + k ≡ a + suc k = omega arith in
+    inr (subst (In (range_with_len (a + 1) n)) e (in_range (a + 1) n k (omega arith)))

@@ -48,7 +48,8 @@ module _ (blank : List ℕ) (slice : Slice) where
   nexts_reached [] made x n i e = absurd i
   nexts_reached (m ∷ ns) made x n i e = elim i [
     | inl f ↦ nexts_kept ns (one made x m (is_next blank slice x m)) x (n ∷ x)
-        (subst (λ t. Reached blank slice (one made x m t) (n ∷ x)) (sym (subst (λ k. is_next blank slice x k ≡ true) (sym f) e))
+        (subst (λ t. Reached blank slice (one made x m t) (n ∷ x))
+        (sym (subst (λ k. is_next blank slice x k ≡ true) (sym f) e))
         (subst (λ k. Reached blank slice (with_order blank slice made (m ∷ x)) (k ∷ x)) f (order_reached made (m ∷ x))))
     | inr j ↦ nexts_reached ns (one made x m (is_next blank slice x m)) x n j e
   ]
@@ -65,7 +66,8 @@ module _ (blank : List ℕ) (slice : Slice) where
   layer_reached [] made x n i j e = absurd i
   layer_reached (y ∷ layer) made x n i j e = elim i [
     | inl f ↦ layer_kept layer _ (n ∷ x)
-        (subst (λ z. Reached blank slice (with_nexts blank slice made z (range_with_len 0 (length slice))) (n ∷ x)) (sym f)
+        (subst (λ z. Reached blank slice (with_nexts blank slice made z (range_with_len 0 (length slice))) (n ∷ x))
+        (sym f)
         (nexts_reached (range_with_len 0 (length slice)) made x n j e))
     | inr k ↦ layer_reached layer _ x n k j e
   ]

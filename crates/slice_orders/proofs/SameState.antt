@@ -84,7 +84,8 @@ next_same blank slice a b n f =
     && all_alike (λ m. not (is_sure slice m) || has (n ∷ a) m) (λ m. not (is_sure slice m) || has (n ∷ b) m)
     (behind_by (slice_get slice n)) (λ m j. ap (λ x. not (is_sure slice m) || ((n == m) || x)) (f.made m)) k)
 
-pub whole_same : (blank : List ℕ) (slice : Slice) (a b : List ℕ) → Same blank slice a b → is_whole slice a ≡ is_whole slice b
+pub whole_same : (blank : List ℕ) (slice : Slice) (a b : List ℕ) → Same blank slice a b
+    → is_whole slice a ≡ is_whole slice b
 whole_same blank slice a b f =
     all_alike (λ n. not (is_sure slice n) || has a n) (λ n. not (is_sure slice n) || has b n)
     (range_with_len 0 (length slice)) (λ n j. ap (λ x. not (is_sure slice n) || x) (f.made n))

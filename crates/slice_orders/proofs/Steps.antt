@@ -1,6 +1,7 @@
 -- An order is a list of pieces that are next, one after the other; so layers that end before one is whole leave none.
 use Rattle.std.proofs.Common.{Bool, List, None, Option, Some, [], false, inl, inr, length, not, refl}
-use Rattle.std.proofs.Common.{eq-eqb, eqb-true, slice_get, subst, suc, sym, true, zero, ℕ, ◌+◌, ◌<◌, ◌==◌, ◌||◌, ◌∙◌, ◌∷◌, ◌≡◌, arith, ap}
+use Rattle.std.proofs.Common.{eq-eqb, eqb-true, slice_get, subst, suc, sym, true, zero, ℕ, ◌+◌, ◌<◌, ◌==◌, ◌||◌, ◌∙◌}
+use Rattle.std.proofs.Common.{◌∷◌, ◌≡◌, arith, ap}
 use Rattle.std.proofs.lemmas.Bool.{and_from, and_parts, not-true, or_cases, or_left, or_right, true≢false}
 use Rattle.std.specs.List.{list_any, range_with_len}
 use Rattle.slice_orders.specs.Layers.{ends, has_no_order, is_next, lacks_none, next_layer}
@@ -46,7 +47,8 @@ AreNext blank slice (n ∷ order) = (is_next blank slice order n ≡ true) × Ar
 
 -- each sure piece that comes before one of these is among them
 abbrev Complete : Slice → List ℕ → Type 0
-Complete slice order = (m n : ℕ) → is_sure slice m ≡ true → has order n ≡ true → comes_before slice m n ≡ true → has order m ≡ true
+Complete slice order =
+    (m n : ℕ) → is_sure slice m ≡ true → has order n ≡ true → comes_before slice m n ≡ true → has order m ≡ true
 
 lacking : (b h : Bool) → (b ≡ true → h ≡ true) → (not b || h) ≡ true
 lacking true h f = f refl

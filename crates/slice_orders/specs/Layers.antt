@@ -45,7 +45,8 @@ with_order blank slice made order =
 abbrev pub with_nexts : List ℕ → Slice → List (List ℕ) → List ℕ → List ℕ → List (List ℕ)
 with_nexts blank slice made order [] = made
 with_nexts blank slice made order (n ∷ ns) =
-    with_nexts blank slice (if is_next blank slice order n then with_order blank slice made (n ∷ order) else made) order ns
+    with_nexts blank slice (if is_next blank slice order n then with_order blank slice made (n ∷ order) else made) order
+    ns
 
 -- these orders, and those of a layer with each piece that may be next
 abbrev pub layer_from : List ℕ → Slice → List (List ℕ) → List (List ℕ) → List (List ℕ)
@@ -64,7 +65,7 @@ ends blank slice zero (order ∷ layer) = false
 ends blank slice (suc steps) (order ∷ layer) =
     not (list_any (is_whole slice) (order ∷ layer)) && ends blank slice steps (next_layer blank slice (order ∷ layer))
 
--- No order of the slice's pieces is possible: layers of states, from that behind none on, end before one is whole. There
--- are at most as many as pieces.
+-- No order of the slice's pieces is possible: layers of states, from that behind none on, end before one is whole.
+-- There are at most as many as pieces.
 abbrev pub has_no_order : List ℕ → Slice → Bool
 has_no_order blank slice = ends blank slice (length slice) ([] ∷ [])

@@ -12,14 +12,17 @@ has numbers n = list_any (λ m. m == n) numbers
 
 -- ---- the pieces by their numbers
 
+-- each history has it, where it is there
 abbrev pub sure_by : Option Piece → Bool
 sure_by None = false
 sure_by (Some p) = p.sure
 
+-- the numbers of those that come before it, where it is there
 abbrev pub behind_by : Option Piece → List ℕ
 behind_by None = []
 behind_by (Some p) = p.behind
 
+-- what it leaves on blocks, where it is there
 abbrev pub writes_by : Option Piece → List Held
 writes_by None = []
 writes_by (Some p) = p.writes
@@ -75,7 +78,7 @@ IsWay blank slice (n ∷ order) = (may_follow blank slice order n ≡ true) × I
 abbrev pub is_whole : Slice → List ℕ → Bool
 is_whole slice order = list_all (λ n. not (is_sure slice n) || has order n) (range_with_len 0 (length slice))
 
--- The pieces of a slice may have had their effects in this order, the newest first: each may follow those before it, and
--- each sure piece is there.
+-- The pieces of a slice may have had their effects in this order, the newest first: each may follow those before it,
+-- and each sure piece is there.
 abbrev pub IsOrder : List ℕ → Slice → List ℕ → Type 0
 IsOrder blank slice order = IsWay blank slice order × (is_whole slice order ≡ true)

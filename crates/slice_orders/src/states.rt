@@ -65,7 +65,8 @@ fn same_for_all(blank: &[u8], slice: &[Piece], a: &[usize], b: &[usize]) -> bool
         .all(|piece| same_for(blank, slice, a, b, piece))
 }
 
-/// Whether both orders lead to one state: the same pieces were made, and each block that a piece looks at holds the same.
+/// Whether both orders lead to one state: the same pieces were made, and each block that a piece looks at holds the
+/// same.
 pub(crate) fn is_same(blank: &[u8], slice: &[Piece], a: &[usize], b: &[usize]) -> bool
     ensures { result ≡ is_same blank.now slice.now a.now b.now }
 {

@@ -17,5 +17,6 @@ returns-in_err-write_block-clause-front g c =
 
 pub loop-block-preserved : goal.loop-block-preserved
 loop-block-preserved g c =
-    subst (Appends _ _) (sym (feeds_more block_line c.args.blocks.now c.loop-block.block-index 0 c.loop-block-test.true))
+    subst (Appends _ _)
+    (sym (feeds_more block_line c.args.blocks.now c.loop-block.block-index 0 c.loop-block-test.true))
     (Appends-trans _ _ _ _ _ c.loop-block.invariant c.in_ok-write_block.ensures.whole)

@@ -8,8 +8,10 @@ returns-in_err-write_line-clause-front g c =
 
 pub returns-clause-whole : goal.returns-clause-whole
 returns-clause-whole g c =
-    on_ok_then c.write_count.result (Appends-trans _ _ _ _ _ c.in_ok-write_line.ensures.whole) c.write_count.ensures.whole
+    on_ok_then c.write_count.result (Appends-trans _ _ _ _ _ c.in_ok-write_line.ensures.whole)
+    c.write_count.ensures.whole
 
 pub returns-clause-front : goal.returns-clause-front
 returns-clause-front g c =
-    on_err_then c.write_count.result (front_second _ _ _ _ _ c.in_ok-write_line.ensures.whole) c.write_count.ensures.front
+    on_err_then c.write_count.result (front_second _ _ _ _ _ c.in_ok-write_line.ensures.whole)
+    c.write_count.ensures.front

@@ -8,8 +8,10 @@ returns-in_err-write_blocks-clause-front g c =
 
 pub returns-clause-whole : goal.returns-clause-whole
 returns-clause-whole g c =
-    on_ok_then c.write_commands.result (Appends-trans _ _ _ _ _ c.in_ok-write_blocks.ensures.whole) c.write_commands.ensures.whole
+    on_ok_then c.write_commands.result (Appends-trans _ _ _ _ _ c.in_ok-write_blocks.ensures.whole)
+    c.write_commands.ensures.whole
 
 pub returns-clause-front : goal.returns-clause-front
 returns-clause-front g c =
-    on_err_then c.write_commands.result (front_second _ _ _ _ _ c.in_ok-write_blocks.ensures.whole) c.write_commands.ensures.front
+    on_err_then c.write_commands.result (front_second _ _ _ _ _ c.in_ok-write_blocks.ensures.whole)
+    c.write_commands.ensures.front
