@@ -1,0 +1,7 @@
+//! Tables of a trace: its entries, those that wait, and the lines that answer them. For whoever checks a refutation.
+#![tactic(auto)]
+
+mod bytes;
+mod tables;
+
+pub use crate::tables::{EntryCid, EntryNumber, TraceAnswers};
