@@ -2,6 +2,7 @@
 #![tactic(auto)]
 
 mod bytes;
+mod finding;
 mod tables;
 
-pub use crate::tables::{EntryCid, EntryNumber, TraceAnswers};
+pub use crate::tables::{EntryCid, EntryNumber, EntryPlace, TraceAnswers};

@@ -29,11 +29,20 @@ pub struct EntryNumber {
     pub number: u64,
 }
 
+/// Where an entry is published: the line, from 0, and the place there.
+#[derive(Clone, Copy, Debug, Drop, PartialEq, Eq)]
+pub struct EntryPlace {
+    pub line: usize,
+    pub place: usize,
+}
+
 /// Tables of a trace: its entries, those that wait, and the lines that answer them.
 #[derive(Drop)]
 pub struct TraceAnswers {
     /// How many entries were published, by submission queue.
     pub published: HashMap<u16, u64>,
+    /// Where each is.
+    pub entries: HashMap<EntryNumber, EntryPlace>,
     /// The numbers of the entries that wait.
     pub waiting: HashMap<EntryCid, u64>,
     /// The lines that answer entries, from 0.
@@ -74,15 +83,24 @@ impl TraceAnswers {
     {
         TraceAnswers {
             published: HashMap::new(alloc),
+            entries: HashMap::new(alloc),
             waiting: HashMap::new(alloc),
             answers: HashMap::new(alloc),
             tidy: true,
         }
     }
 
-    fn publish_one(&mut self, queue: u16, entry: &Submission) -> Result<(), NoMemory>
+    fn publish_one(
+        &mut self,
+        queue: u16,
+        entry: &Submission,
+        at: EntryPlace,
+    ) -> Result<(), NoMemory>
         ensures published { OnOk result ((q : ℕ) → (answers_in self.new).published q ≡
             (answers_in self.old).published q + (if queue == q then 1 else 0)) }
+        ensures entries { OnOk result ((q j : ℕ) → (answers_in self.new).entries q j ≡
+            (if (queue == q) && ((answers_in self.old).published queue == j) then Some at
+            else (answers_in self.old).entries q j)) }
         ensures waiting { OnOk result ((q cid : ℕ) → (answers_in self.new).waiting q cid ≡
             with_entry (answers_in self.old).waiting queue (cid_of entry.now) ((answers_in self.old).published queue) q cid) }
         ensures answers { OnOk result ((q j : ℕ) →
@@ -95,23 +113,33 @@ impl TraceAnswers {
         let number = count_of(&self.published, queue);
         let before = self.waiting.insert(EntryCid { queue, cid }, number)?;
         self.tidy = self.tidy && before.is_none();
+        self.entries.insert(EntryNumber { queue, number }, at)?;
         add_one(&mut self.published, queue)
     }
 
-    fn publish(&mut self, line: &PublishLine) -> Result<(), NoMemory>
-        ensures { (trace : List Seen) → KnowsAnswers trace (answers_in self.old) →
+    fn publish(&mut self, line: &PublishLine, number: usize) -> Result<(), NoMemory>
+        ensures { (trace : List Seen) → KnowsAnswers trace (answers_in self.old) → number ≡ length trace →
             OnOk result (KnowsAnswers (Seen.Published line.now ∷ trace) (answers_in self.new)) }
     {
         short_fits(line.queue);
-        for entry in line.batch.as_slice() {
-            self.publish_one(line.queue, entry)?;
+        let batch = line.batch.as_slice();
+        for (place, entry) in batch.iter().enumerate() {
+            self.publish_one(
+                line.queue,
+                entry,
+                EntryPlace {
+                    line: number,
+                    place,
+                },
+            )?;
         }
         Ok(())
     }
 
-    fn answer(&mut self, queue: u16, cid: u16) -> Option<u64>
+    fn take_waiting(&mut self, queue: u16, cid: u16) -> Option<u64>
         ensures value { result ≡ (answers_in self.old).waiting queue cid }
         ensures published { (r : ℕ) → (answers_in self.new).published r ≡ (answers_in self.old).published r }
+        ensures entries { (r j : ℕ) → (answers_in self.new).entries r j ≡ (answers_in self.old).entries r j }
         ensures waiting { (r i : ℕ) → (answers_in self.new).waiting r i ≡
             without_entry (answers_in self.old).waiting queue cid r i }
         ensures answers { (r j : ℕ) → (answers_in self.new).answers r j ≡ (answers_in self.old).answers r j }
@@ -122,6 +150,7 @@ impl TraceAnswers {
 
     fn note(&mut self, queue: u16, number: u64, place: usize) -> Result<(), NoMemory>
         ensures published { (r : ℕ) → (answers_in self.new).published r ≡ (answers_in self.old).published r }
+        ensures entries { (r j : ℕ) → (answers_in self.new).entries r j ≡ (answers_in self.old).entries r j }
         ensures waiting { (r i : ℕ) → (answers_in self.new).waiting r i ≡ (answers_in self.old).waiting r i }
         ensures answers { OnOk result ((r j : ℕ) → (answers_in self.new).answers r j ≡
             (if (queue == r) && (number == j) then Some place else (answers_in self.old).answers r j)) }
@@ -136,7 +165,7 @@ impl TraceAnswers {
             OnOk result (KnowsAnswers (Seen.Reaped line.now ∷ trace) (answers_in self.new)) }
     {
         let queue = queue_of(&line.cqe);
-        match self.answer(queue, cid_named(&line.cqe)) {
+        match self.take_waiting(queue, cid_named(&line.cqe)) {
             Some(number) => self.note(queue, number, place),
             None => Ok(()),
         }
@@ -147,7 +176,7 @@ impl TraceAnswers {
             OnOk result (KnowsAnswers (line.now ∷ trace) (answers_in self.new)) }
     {
         match line {
-            Seen::Published(line) => self.publish(line),
+            Seen::Published(line) => self.publish(line, place),
             Seen::Reaped(line) => self.reap(line, place),
         }
     }

@@ -1,7 +1,7 @@
 use Rattle.std.proofs.Common.{None, cond, ◌&&◌, ◌∙◌}
 use Rattle.plain_lemmas.proofs.Numbers.{eqb_swapped}
 use Rattle.trace_answers.specs.Answers.{answers_in}
-use Rattle.trace_answers.proofs.tables.TraceAnswers.answer.Goals as goal
+use Rattle.trace_answers.proofs.tables.TraceAnswers.take_waiting.Goals as goal
 
 pub returns-clause-waiting : goal.returns-clause-waiting
 returns-clause-waiting c =
