@@ -8,7 +8,7 @@ use byteorder::{ByteOrder, LittleEndian};
 use nvme_model::submission::Submission;
 
 /// The CID of an entry.
-pub(crate) fn cid_of(entry: &Submission) -> u16
+pub fn cid_of(entry: &Submission) -> u16
     ensures value { result ≡ cid_of entry.now }
     ensures fits { cid_of entry.now < 2 ^ 16 }
 {
@@ -16,14 +16,14 @@ pub(crate) fn cid_of(entry: &Submission) -> u16
 }
 
 /// The submission queue that a completion names.
-pub(crate) fn queue_of(cqe: &[u8; 16]) -> u16
+pub fn queue_of(cqe: &[u8; 16]) -> u16
     ensures value { result ≡ (cqe_fields cqe.now).sqid }
 {
     LittleEndian::read_u16(&cqe[10..12])
 }
 
 /// The CID that a completion names.
-pub(crate) fn cid_named(cqe: &[u8; 16]) -> u16
+pub fn cid_named(cqe: &[u8; 16]) -> u16
     ensures value { result ≡ (cqe_fields cqe.now).cid }
 {
     LittleEndian::read_u16(&cqe[12..14])

@@ -5,4 +5,5 @@ mod bytes;
 mod finding;
 mod tables;
 
+pub use crate::bytes::{cid_named, cid_of, queue_of};
 pub use crate::tables::{EntryCid, EntryNumber, EntryPlace, TraceAnswers};
