@@ -6,8 +6,9 @@ use Rattle.std.proofs.lemmas.Bool.{eqb-true, leb-false, leb-true, ltb-false}
 use Rattle.std.proofs.lemmas.List.{append-nil, length-append, length-reverse, reverse-append}
 use Rattle.plain_lemmas.proofs.Lists.{at_last}
 use Rattle.trace.specs.declared.seen.Seen.{Seen}
-use Rattle.refutation_laws.specs.Lines.{published_in}
-use Rattle.trace_answers.specs.Answers.{entry_at, entry_of, entry_place}
+use Rattle.nvme_model.specs.EntryBytes.{cqe_fields}
+use Rattle.refutation_laws.specs.Lines.{answer_in, answered, is_number, published_in}
+use Rattle.trace_answers.specs.Answers.{answer_place, entry_at, entry_of, entry_place, reaped_at, reaped_of}
 use Rattle.trace_answers.specs.declared.tables.EntryPlace.{EntryPlace}
 
 -- ---- lists
@@ -112,3 +113,41 @@ place_is (Seen.Published b ∷ trace) q j = by (b.queue == q) refl (place_is tra
     by true e h =
         inside (nat_le n j) (nat_lt j (n + length b.batch)) refl refl (eqb-true _ _ e) h
     by false e h = old ∙ h ∙ ap (λ xs. slice_get xs j) (sym (append-nil (published_in trace q)))
+
+-- ---- answers
+
+answer_within : (trace : List Seen) (q j n : ℕ) → answer_place trace q j ≡ Some n → n < length trace
+answer_within [] q j n e = absurd (let no : None ≡ Some n = e in cc)
+answer_within (Seen.Published p ∷ trace) q j n e =
+    let low : n < length trace = answer_within trace q j n e in omega arith
+answer_within (Seen.Reaped r ∷ trace) q j n e =
+    by (((cqe_fields r.cqe).sqid == q) && is_number j (answered trace r.cqe)) e (answer_within trace q j n)
+  where
+    by : (t : Bool) → (if t then Some (length trace) else answer_place trace q j) ≡ Some n
+        → (answer_place trace q j ≡ Some n → n < length trace) → n < suc (length trace)
+    by true g f = let same : length trace ≡ n = cc in omega arith
+    by false g f = let low : n < length trace = f g in omega arith
+
+answer_still : (trace : List Seen) (s : Seen) (q j : ℕ) (o : Option ℕ) → answer_place trace q j ≡ o
+    → reaped_at (reverse (s ∷ trace)) o ≡ reaped_at (reverse trace) o
+answer_still trace s q j None e = refl
+answer_still trace s q j (Some n) e =
+    let low : n < length trace = answer_within trace q j n e in
+    let lower : n < length (reverse trace) = omega (arith, length-reverse trace) in
+    ap (λ xs. reaped_of (slice_get xs n)) (reverse-append (s ∷ []) trace)
+    ∙ ap reaped_of (get_front (reverse trace) (s ∷ []) n lower)
+
+-- The completion at the place of an answer is that answer.
+pub answer_is : (trace : List Seen) (q j : ℕ)
+    → reaped_at (reverse trace) (answer_place trace q j) ≡ answer_in trace q j
+answer_is [] q j = refl
+answer_is (Seen.Published p ∷ trace) q j =
+    answer_still trace (Seen.Published p) q j (answer_place trace q j) refl ∙ answer_is trace q j
+answer_is (Seen.Reaped r ∷ trace) q j =
+    by (((cqe_fields r.cqe).sqid == q) && is_number j (answered trace r.cqe)) (answer_is trace q j)
+  where
+    by : (t : Bool) → reaped_at (reverse trace) (answer_place trace q j) ≡ answer_in trace q j
+        → reaped_at (reverse (Seen.Reaped r ∷ trace)) (if t then Some (length trace) else answer_place trace q j)
+        ≡ (if t then Some r else answer_in trace q j)
+    by true h = ap reaped_of (newest_there trace (Seen.Reaped r))
+    by false h = answer_still trace (Seen.Reaped r) q j (answer_place trace q j) refl ∙ h

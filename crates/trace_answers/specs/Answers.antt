@@ -5,6 +5,7 @@ use Rattle.std.specs.HashMap.{get, get_by}
 use Rattle.nvme_model.specs.EntryBytes.{cqe_fields}
 use Rattle.nvme_model.specs.declared.submission.Submission.{Submission}
 use Rattle.host_laws.specs.Book.{Book}
+use Rattle.trace.specs.declared.seen.ReapedLine.{ReapedLine}
 use Rattle.trace.specs.declared.seen.Seen.{Seen}
 use Rattle.refutation_laws.specs.Lines.{answered, is_number, is_tidy, published_in, waiting_in}
 use Rattle.trace_answers.specs.declared.tables.EntryCid.{EntryCid}
@@ -56,6 +57,17 @@ entry_of (Some (Seen.Reaped r)) place = None
 abbrev pub entry_at : List Seen → Option EntryPlace → Option Submission
 entry_at lines None = None
 entry_at lines (Some p) = entry_of (slice_get lines p.line) p.place
+
+-- the completion of this line
+abbrev pub reaped_of : Option Seen → Option ReapedLine
+reaped_of None = None
+reaped_of (Some (Seen.Published p)) = None
+reaped_of (Some (Seen.Reaped r)) = Some r
+
+-- The completion at this line of a trace, the oldest line first.
+abbrev pub reaped_at : List Seen → Option ℕ → Option ReapedLine
+reaped_at lines None = None
+reaped_at lines (Some n) = reaped_of (slice_get lines n)
 
 -- The number of the line, from 0, that answers entry j of submission queue q in a trace, the newest line first.
 abbrev pub answer_place : List Seen → ℕ → ℕ → Option ℕ
