@@ -62,7 +62,7 @@ posted_of c past r x h =
 
 -- ---- its status
 
-first_allowed : (c : ConfigNumbers) (past : Past) (q j : ℕ) (p : PostLine) (s : Submission) → IsLegal c past
+pub first_allowed : (c : ConfigNumbers) (past : Past) (q j : ℕ) (p : PostLine) (s : Submission) → IsLegal c past
     → (f : PostOf c past q j p) → slice_get (published_entries past q) j ≡ Some s
     → (n : Seen past f.at.before p.ticket q) → (x : First f.at.before p.ticket j s)
     → parts_pair (observed c past) q j ≡ false → FetchOf c past (Tickets.ticket past p.ticket).verdict q j

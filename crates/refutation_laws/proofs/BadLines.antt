@@ -13,6 +13,7 @@ use Rattle.trace.proofs.Beginnings.{all_explained}
 use Rattle.refutation_laws.specs.LineRules.{breaks_entry_rules, is_bad_line}
 use Rattle.refutation_laws.specs.Lines.{is_tidy}
 use Rattle.refutation_laws.proofs.Answering.{data_right, status_right}
+use Rattle.refutation_laws.proofs.EarlySeconds.{early_right}
 use Rattle.refutation_laws.proofs.LastLine.{LastReap, last_publish, last_reap}
 use Rattle.refutation_laws.proofs.LeastFetched.{head_right}
 use Rattle.refutation_laws.proofs.LineOrders.{beginning}
@@ -25,9 +26,9 @@ tidy_rules c r trace a l = go (is_tidy trace) refl
   where
     go : (b : Bool) → is_tidy trace ≡ b → (b && breaks_entry_rules c trace r) ≡ false
     go false d = refl
-    go true d = none_of _ _ (none_of _ _ (none_of _ _ (none_of _ _ (entry_right c r trace d l)
+    go true d = none_of _ _ (none_of _ _ (none_of _ _ (none_of _ _ (none_of _ _ (entry_right c r trace d l)
         (head_right c r trace a d l)) (status_right c r trace d l)) (second_right c r trace d l))
-        (data_right c r trace d l)
+        (early_right c r trace d l)) (data_right c r trace d l)
 
 pub line_right : (c : ConfigNumbers) (past : Past) (trace : List Seen) → is_accepted c ≡ true → IsLegal c past
     → observed c past ≡ trace → is_bad_line c trace ≡ false

@@ -4,7 +4,7 @@ use Rattle.nvme_model.specs.Examples.{cqe, default, one, pair_on_3, submit}
 use Rattle.nvme_model.specs.declared.submission.Submission.{Submission}
 use Rattle.trace.specs.declared.seen.ReapedLine.{ReapedLine}
 use Rattle.trace.specs.declared.seen.Seen.{Seen}
-use Rattle.refutation_laws.specs.LineRules.{has_wrong_data, has_wrong_second, has_wrong_status}
+use Rattle.refutation_laws.specs.LineRules.{has_early_second, has_wrong_data, has_wrong_second, has_wrong_status}
 
 -- a Publish of these entries to queue 1
 abbrev published : List Submission → Seen
@@ -95,6 +95,17 @@ both_fail = refl
 
 pub second_alone_succeeds : has_wrong_second (Seen.Reaped (answer 7 0x0b 5 []) ∷ pair) (answer 8 1 0 []) ≡ true
 second_alone_succeeds = refl
+
+-- the first isn't answered
+pub early : has_early_second pair (answer 8 1 0 []) ≡ true
+early = refl
+
+pub in_turn : has_early_second (Seen.Reaped (answer 7 1 0 []) ∷ pair) (answer 8 1 0 []) ≡ false
+in_turn = refl
+
+-- a second alone may come first
+pub early_alone : has_early_second two_lines (answer 8 0x15 0 []) ≡ false
+early_alone = refl
 
 -- ---- data
 

@@ -55,7 +55,7 @@ heads c (Entry.Post p ∷ past) n =
     ((posted_answer past p, fetched_count past (Tickets.ticket past p.ticket).queue) ∷ []) []
 heads c (_ ∷ past) n = heads c past n
 
-heads_map : (c : ConfigNumbers) (past : Past) (n : ℕ)
+pub heads_map : (c : ConfigNumbers) (past : Past) (n : ℕ)
     → map (λ (h : Head). h.0) (heads c past n) ≡ posted_answers c past n
 heads_map c [] n = refl
 heads_map c (Entry.Post p ∷ past) n =

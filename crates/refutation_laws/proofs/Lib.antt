@@ -33,3 +33,5 @@ pub mod ReadRules
 pub mod ExampleReads
 pub mod Refuted
 pub mod ExampleSlices
+pub mod FirstAnswered
+pub mod EarlySeconds

@@ -9,6 +9,7 @@ use Rattle.nvme_model.specs.EntryBytes.{cqe_fields, sqe_fields}
 use Rattle.nvme_model.specs.History.{Past}
 use Rattle.nvme_model.specs.Legal.{IsLegal}
 use Rattle.nvme_model.specs.Refusals.{no_queue}
+use Rattle.nvme_model.specs.Statuses.{missing_fused, same_status}
 use Rattle.nvme_model.specs.declared.config.ConfigNumbers.{ConfigNumbers}
 use Rattle.nvme_model.specs.declared.entry.PublishLine.{PublishLine}
 use Rattle.nvme_model.specs.declared.status.Status.{Status}
@@ -23,7 +24,8 @@ use Rattle.trace.specs.declared.seen.ReapedLine.{ReapedLine}
 use Rattle.trace.specs.declared.seen.Seen.{Seen}
 use Rattle.trace.proofs.Aside.{own_all}
 use Rattle.trace.proofs.Pointwise.{are_same, same_length}
-use Rattle.refutation_laws.specs.LineRules.{answers_apart, has_wrong_batch, has_wrong_data, has_wrong_head}
+use Rattle.refutation_laws.specs.LineRules.{answers_apart, has_early_second, is_second_early, has_wrong_batch}
+use Rattle.refutation_laws.specs.LineRules.{has_wrong_data, has_wrong_head}
 use Rattle.refutation_laws.specs.LineRules.{has_wrong_phase, has_wrong_second, has_wrong_status, is_apart_from}
 use Rattle.refutation_laws.specs.LineRules.{is_second_apart, least_fetched, may_not_answer, names_no_entry}
 use Rattle.refutation_laws.specs.LineRules.{names_wrong_queue, number_may_not, number_owes_other, owes_other_data}
@@ -32,6 +34,7 @@ use Rattle.refutation_laws.specs.MayAnswer.{answers_first, has_fuse, may_answer,
 use Rattle.refutation_laws.specs.MayAnswer.{may_answer_first, may_answer_second, verdict_at}
 use Rattle.refutation_laws.specs.ReadRules.{breaks_read_rules, has_wrong_answer, is_bad_read_line}
 use Rattle.refutation_laws.proofs.Answering.{data_right, status_right}
+use Rattle.refutation_laws.proofs.EarlySeconds.{early_right}
 use Rattle.refutation_laws.proofs.LastLine.{LastReap, last_publish, last_reap}
 use Rattle.refutation_laws.proofs.LeastFetched.{head_right}
 use Rattle.refutation_laws.proofs.LineOrders.{beginning}
@@ -136,6 +139,21 @@ same_second_rule o seen trace q (Some (suc i)) s kept h =
     (exact_entries o seen trace q kept h)
     (same_apart o (answer_in seen q i) (answer_in trace q i) s kept (same_answer o seen trace q i h))
 
+same_none : (o : TraceOptions) (a b : Option ReapedLine) → AnswersRead o a b → is_none a ≡ is_none b
+same_none o None None h = refl
+same_none o None (Some t) h = absurd h
+same_none o (Some r) None h = absurd h
+same_none o (Some r) (Some t) h = refl
+
+same_early_rule : (o : TraceOptions) (seen trace : List Seen) (q : ℕ) (n : Option ℕ) (s : Status)
+    → o.statuses_any ≡ false → Reads o seen trace → is_second_early seen q n s ≡ is_second_early trace q n s
+same_early_rule o seen trace q None s kept h = refl
+same_early_rule o seen trace q (Some zero) s kept h = refl
+same_early_rule o seen trace q (Some (suc i)) s kept h =
+    ap₂ (λ (es : List Submission) (b : Bool). has_fuse 1 (slice_get es i) && has_fuse 2 (slice_get es (suc i)) && b
+    && not (same_status s missing_fused)) (exact_entries o seen trace q kept h)
+    (same_none o (answer_in seen q i) (answer_in trace q i) (same_answer o seen trace q i h))
+
 same_data_rule : (o : TraceOptions) (seen trace : List Seen) (q : ℕ) (n : Option ℕ) (s : Status) (m : ℕ)
     → o.statuses_any ≡ false → Reads o seen trace → number_owes_other seen q n s m ≡ number_owes_other trace q n s m
 same_data_rule o seen trace q None s m kept h = refl
@@ -158,11 +176,14 @@ same_wrong o c seen trace r t kept h g =
     let second : has_wrong_second seen r ≡ has_wrong_second trace t =
     ap₂ (λ (a : ℕ) (b : Option ℕ). is_second_apart seen a b (cqe_status r.cqe)) q n
     ∙ (ap (is_second_apart seen q2 n2) s ∙ same_second_rule o seen trace q2 n2 s2 kept h) in
+    let early : has_early_second seen r ≡ has_early_second trace t =
+    ap₂ (λ (a : ℕ) (b : Option ℕ). is_second_early seen a b (cqe_status r.cqe)) q n
+    ∙ (ap (is_second_early seen q2 n2) s ∙ same_early_rule o seen trace q2 n2 s2 kept h) in
     let bytes : has_wrong_data seen r ≡ has_wrong_data trace t =
     ap₂ (λ (a : ℕ) (b : Option ℕ). number_owes_other seen a b (cqe_status r.cqe) (length r.payload)) q n
     ∙ (ap₂ (λ (x : Status) (l : List ℕ). number_owes_other seen q2 n2 x (length l)) s g.2
     ∙ same_data_rule o seen trace q2 n2 s2 (length t.payload) kept h) in
-    ap₂ (λ (x y : Bool). x || y) (ap₂ (λ (x y : Bool). x || y) status second) bytes
+    ap₂ (λ (x y : Bool). x || y) (ap₂ (λ (x y : Bool). x || y) (ap₂ (λ (x y : Bool). x || y) status second) early) bytes
 
 -- ---- the newest line
 
@@ -189,7 +210,8 @@ entry_rules o c seen trace r t a l h g = by_tidy (is_tidy trace) refl
     answer d true e = refl
     answer d false e =
         sym (same_wrong o c seen trace r t e h g)
-        ∙ none_of _ _ (none_of _ _ (status_right c r seen d l) (second_right c r seen d l)) (data_right c r seen d l)
+        ∙ none_of _ _ (none_of _ _ (none_of _ _ (status_right c r seen d l) (second_right c r seen d l))
+        (early_right c r seen d l)) (data_right c r seen d l)
 
     by_tidy : (b : Bool) → is_tidy trace ≡ b → (b && breaks_read_rules o c trace t) ≡ false
     by_tidy false e = refl

@@ -7,7 +7,7 @@ use Rattle.nvme_model.specs.Completions.{phase}
 use Rattle.nvme_model.specs.Config.{completion_queue}
 use Rattle.nvme_model.specs.EntryBytes.{cqe_fields}
 use Rattle.nvme_model.specs.Refusals.{no_queue}
-use Rattle.nvme_model.specs.Statuses.{compare_failure, failed_fused, is_success, same_status}
+use Rattle.nvme_model.specs.Statuses.{compare_failure, failed_fused, is_success, missing_fused, same_status}
 use Rattle.nvme_model.specs.declared.config.ConfigNumbers.{ConfigNumbers}
 use Rattle.nvme_model.specs.declared.entry.PublishLine.{PublishLine}
 use Rattle.nvme_model.specs.declared.status.Status.{Status}
@@ -111,6 +111,20 @@ abbrev pub has_wrong_second : List Seen → ReapedLine → Bool
 has_wrong_second trace r =
     is_second_apart trace (cqe_fields r.cqe).sqid (answered trace r.cqe) (cqe_status r.cqe)
 
+-- This entry of submission queue q and the one before it are the second and the first of a pair, the first isn't
+-- answered, and this isn't the answer of a second that was fetched alone.
+abbrev pub is_second_early : List Seen → ℕ → Option ℕ → Status → Bool
+is_second_early trace q None s = false
+is_second_early trace q (Some zero) s = false
+is_second_early trace q (Some (suc i)) s =
+    has_fuse 1 (slice_get (published_in trace q) i) && has_fuse 2 (slice_get (published_in trace q) (suc i))
+    && is_none (answer_in trace q i) && not (same_status s missing_fused)
+
+-- It answers the second command of a pair before its first.
+abbrev pub has_early_second : List Seen → ReapedLine → Bool
+has_early_second trace r =
+    is_second_early trace (cqe_fields r.cqe).sqid (answered trace r.cqe) (cqe_status r.cqe)
+
 -- There is this entry, and so many bytes of data don't belong to its completion with this status.
 abbrev pub owes_other_data : Option Submission → Status → ℕ → Bool
 owes_other_data None s n = false
@@ -135,7 +149,7 @@ has_wrong_batch c p = no_queue c p.queue || (length p.batch == 0) || nat_lt (c.s
 abbrev pub breaks_entry_rules : ConfigNumbers → List Seen → ReapedLine → Bool
 breaks_entry_rules c trace r =
     names_no_entry trace r || has_wrong_head c trace r || has_wrong_status c trace r || has_wrong_second trace r
-    || has_wrong_data trace r
+    || has_early_second trace r || has_wrong_data trace r
 
 -- The newest line of a trace is bad. Which entry a completion answers is asked behind lines that publish no CID again
 -- while it waits.

@@ -6,7 +6,8 @@ use Rattle.trace.specs.Options.{read_completion}
 use Rattle.trace.specs.declared.options.TraceOptions.{TraceOptions}
 use Rattle.trace.specs.declared.seen.ReapedLine.{ReapedLine}
 use Rattle.trace.specs.declared.seen.Seen.{Seen}
-use Rattle.refutation_laws.specs.LineRules.{has_wrong_batch, has_wrong_data, has_wrong_head, has_wrong_phase}
+use Rattle.refutation_laws.specs.LineRules.{has_early_second, has_wrong_batch, has_wrong_data, has_wrong_head}
+use Rattle.refutation_laws.specs.LineRules.{has_wrong_phase}
 use Rattle.refutation_laws.specs.LineRules.{has_wrong_second, has_wrong_status, names_no_entry, names_wrong_queue}
 use Rattle.refutation_laws.specs.Lines.{is_tidy}
 
@@ -16,7 +17,8 @@ sets_read_bits o r = not (is_clean (read_completion o r.cqe))
 
 -- Its status, or the data that goes with it, isn't what its entry may be answered.
 abbrev pub has_wrong_answer : ConfigNumbers → List Seen → ReapedLine → Bool
-has_wrong_answer c trace r = has_wrong_status c trace r || has_wrong_second trace r || has_wrong_data trace r
+has_wrong_answer c trace r =
+    has_wrong_status c trace r || has_wrong_second trace r || has_early_second trace r || has_wrong_data trace r
 
 -- It breaks one of the rules that ask which entry it answers: SQHD is asked where it isn't ignored, the status and the
 -- data where not any status will do.

@@ -17,7 +17,7 @@ ghost use Rattle.trace.specs.declared.seen.ReapedLine.{ReapedLine};
 ghost use Rattle.trace.specs.declared.seen.Seen.{Seen};
 ghost use Rattle.refutation_laws.specs.LineRules.{has_wrong_head, has_wrong_phase};
 ghost use Rattle.refutation_laws.specs.LineRules.{has_wrong_status, is_bad_line, names_no_entry};
-ghost use Rattle.refutation_laws.specs.LineRules.{has_wrong_batch, has_wrong_data};
+ghost use Rattle.refutation_laws.specs.LineRules.{has_early_second, has_wrong_batch, has_wrong_data};
 ghost use Rattle.refutation_laws.specs.LineRules.{has_wrong_second, names_wrong_queue};
 ghost use Rattle.refutation_laws.specs.LineRules.{sets_unused_bits};
 ghost use Rattle.refutation_laws.specs.Lines.{answer_in, is_tidy, published_in, reaped_in, waiting_in};
@@ -83,6 +83,12 @@ pub fn no_completion_has_a_wrong_status()
 pub fn no_second_is_answered_apart()
     ensures { (c : ConfigNumbers) (past : Past) (r : ReapedLine) (trace : List Seen) → is_tidy trace ≡ true →
         Explains no_options c past (Seen.Reaped r ∷ trace) → has_wrong_second trace r ≡ false }
+{}
+
+/// Where it answers the second command of a pair before its first, it is the answer of a second that was fetched alone.
+pub fn no_second_is_answered_early()
+    ensures { (c : ConfigNumbers) (past : Past) (r : ReapedLine) (trace : List Seen) → is_tidy trace ≡ true →
+        Explains no_options c past (Seen.Reaped r ∷ trace) → has_early_second trace r ≡ false }
 {}
 
 /// The data beside it is that of a Read that succeeded, and beside any other completion is none.
