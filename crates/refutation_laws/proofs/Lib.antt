@@ -35,3 +35,5 @@ pub mod Refuted
 pub mod ExampleSlices
 pub mod FirstAnswered
 pub mod EarlySeconds
+pub mod QueueBooks
+pub mod BookAnswers

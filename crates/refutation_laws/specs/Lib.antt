@@ -7,3 +7,4 @@ pub mod Told
 pub mod EffectOrders
 pub mod Slices
 pub mod Refuted
+pub mod QueueBooks
