@@ -3,6 +3,7 @@ use Rattle.std.specs.Prelude.{List, [], false, refl, true, ℕ, ◌++◌, ◌∷
 use Rattle.nvme_model.specs.Examples.{cqe, default, one, pair_on_3, submit}
 use Rattle.nvme_model.specs.declared.config.ConfigNumbers.{ConfigNumbers}
 use Rattle.nvme_model.specs.declared.submission.Submission.{Submission}
+use Rattle.trace.specs.Options.{no_options}
 use Rattle.trace.specs.declared.seen.Seen.{Seen}
 use Rattle.refutation_laws.specs.Refuted.{lacks_order}
 
@@ -43,13 +44,13 @@ read_behind byte =
     ∷ done 1 1 1 [] ∷ published 1 (write 1 0x0a ∷ []) ∷ []
 
 -- it finds what was overwritten, what nobody wrote, what was there at first, or what was written
-pub overwritten : lacks_order default (read_behind 0x0a) ((1, 2) ∷ []) (3 ∷ []) ≡ true
+pub overwritten : lacks_order no_options default (read_behind 0x0a) ((1, 2) ∷ []) (3 ∷ []) ≡ true
 overwritten = refl
 
-pub unwritten : lacks_order default (read_behind 0x0c) ((1, 2) ∷ []) (3 ∷ []) ≡ true
+pub unwritten : lacks_order no_options default (read_behind 0x0c) ((1, 2) ∷ []) (3 ∷ []) ≡ true
 unwritten = refl
 
-pub right : lacks_order default (read_behind 0x0b) ((1, 0) ∷ (1, 1) ∷ (1, 2) ∷ []) (3 ∷ []) ≡ false
+pub right : lacks_order no_options default (read_behind 0x0b) ((1, 0) ∷ (1, 1) ∷ (1, 2) ∷ []) (3 ∷ []) ≡ false
 right = refl
 
 -- a Write that is out may have come at any time, and isn't found before it is published
@@ -60,13 +61,13 @@ one_out byte =
 abbrev out_later : List Seen
 out_later = published 2 (write 5 0x0b ∷ []) ∷ done 1 1 1 (one 0x0b) ∷ published 1 (read 1 ∷ []) ∷ []
 
-pub found_out : lacks_order default (one_out 0x0b) ((1, 0) ∷ (2, 0) ∷ []) (3 ∷ []) ≡ false
+pub found_out : lacks_order no_options default (one_out 0x0b) ((1, 0) ∷ (2, 0) ∷ []) (3 ∷ []) ≡ false
 found_out = refl
 
-pub not_yet_out : lacks_order default (one_out 0) ((1, 0) ∷ (2, 0) ∷ []) (3 ∷ []) ≡ false
+pub not_yet_out : lacks_order no_options default (one_out 0) ((1, 0) ∷ (2, 0) ∷ []) (3 ∷ []) ≡ false
 not_yet_out = refl
 
-pub found_too_early : lacks_order default out_later ((1, 0) ∷ []) (3 ∷ []) ≡ true
+pub found_too_early : lacks_order no_options default out_later ((1, 0) ∷ []) (3 ∷ []) ≡ true
 found_too_early = refl
 
 -- ---- two Reads
@@ -81,14 +82,14 @@ two_reads first second =
 abbrev all_four : List (ℕ × ℕ)
 all_four = (1, 0) ∷ (1, 1) ∷ (1, 2) ∷ (2, 0) ∷ []
 
-pub reads_agree : lacks_order default (two_reads 0x0a 0x0a) all_four (3 ∷ []) ≡ false
+pub reads_agree : lacks_order no_options default (two_reads 0x0a 0x0a) all_four (3 ∷ []) ≡ false
 reads_agree = refl
 
-pub reads_disagree : lacks_order default (two_reads 0x0a 0x0b) all_four (3 ∷ []) ≡ true
+pub reads_disagree : lacks_order no_options default (two_reads 0x0a 0x0b) all_four (3 ∷ []) ≡ true
 reads_disagree = refl
 
 -- of each Read alone nothing is refuted
-pub one_read : lacks_order default (two_reads 0x0a 0x0b) ((1, 2) ∷ []) (3 ∷ []) ≡ false
+pub one_read : lacks_order no_options default (two_reads 0x0a 0x0b) ((1, 2) ∷ []) (3 ∷ []) ≡ false
 one_read = refl
 
 -- ---- pairs
@@ -99,15 +100,16 @@ two_pairs second =
     second ++ (done 1 2 2 [] ∷ done 1 2 1 [] ∷ published 2 (pair_on_3 5 6 0 0xb2)
     ∷ published 1 (pair_on_3 1 2 0 0xa1) ∷ [])
 
-pub both_swap : lacks_order default (two_pairs (done 2 2 6 [] ∷ done 2 2 5 [] ∷ [])) ((1, 0) ∷ (2, 0) ∷ []) (3 ∷ [])
+pub both_swap : lacks_order no_options default (two_pairs (done 2 2 6 [] ∷ done 2 2 5 [] ∷ [])) ((1, 0) ∷ (2, 0) ∷ [])
+    (3 ∷ [])
     ≡ true
 both_swap = refl
 
-pub one_swaps : lacks_order default (two_pairs (differs 2 2 5 ∷ [])) ((1, 0) ∷ (2, 0) ∷ []) (3 ∷ []) ≡ false
+pub one_swaps : lacks_order no_options default (two_pairs (differs 2 2 5 ∷ [])) ((1, 0) ∷ (2, 0) ∷ []) (3 ∷ []) ≡ false
 one_swaps = refl
 
 -- a pair that is out may have swapped, or not
-pub other_is_out : lacks_order default (two_pairs []) ((1, 0) ∷ (2, 0) ∷ []) (3 ∷ []) ≡ false
+pub other_is_out : lacks_order no_options default (two_pairs []) ((1, 0) ∷ (2, 0) ∷ []) (3 ∷ []) ≡ false
 other_is_out = refl
 
 -- ---- Compare Failure
@@ -116,14 +118,14 @@ abbrev compare_behind : ℕ → List Seen
 compare_behind byte =
     differs 1 2 2 ∷ published 1 (compare 2 byte ∷ []) ∷ done 1 1 1 [] ∷ published 1 (write 1 0x0a ∷ []) ∷ []
 
-pub nothing_differed : lacks_order default (compare_behind 0x0a) ((1, 0) ∷ (1, 1) ∷ []) (3 ∷ []) ≡ true
+pub nothing_differed : lacks_order no_options default (compare_behind 0x0a) ((1, 0) ∷ (1, 1) ∷ []) (3 ∷ []) ≡ true
 nothing_differed = refl
 
-pub it_differed : lacks_order default (compare_behind 0x0b) ((1, 0) ∷ (1, 1) ∷ []) (3 ∷ []) ≡ false
+pub it_differed : lacks_order no_options default (compare_behind 0x0b) ((1, 0) ∷ (1, 1) ∷ []) (3 ∷ []) ≡ false
 it_differed = refl
 
 -- all of its blocks have to be looked at
-pub not_looked_at : lacks_order default (compare_behind 0x0a) ((1, 0) ∷ (1, 1) ∷ []) (2 ∷ []) ≡ false
+pub not_looked_at : lacks_order no_options default (compare_behind 0x0a) ((1, 0) ∷ (1, 1) ∷ []) (2 ∷ []) ≡ false
 not_looked_at = refl
 
 -- ---- units
@@ -140,10 +142,10 @@ two_units first second =
 abbrev all_three : List (ℕ × ℕ)
 all_three = (1, 0) ∷ (1, 1) ∷ (2, 0) ∷ []
 
-pub second_first : lacks_order default (two_units 0x0b 0) all_three (3 ∷ 5 ∷ []) ≡ true
+pub second_first : lacks_order no_options default (two_units 0x0b 0) all_three (3 ∷ 5 ∷ []) ≡ true
 second_first = refl
 
-pub first_first : lacks_order default (two_units 0 0x0a) all_three (3 ∷ 5 ∷ []) ≡ false
+pub first_first : lacks_order no_options default (two_units 0 0x0a) all_three (3 ∷ 5 ∷ []) ≡ false
 first_first = refl
 
 -- ---- SQHD
@@ -152,10 +154,10 @@ first_first = refl
 abbrev read_before : ℕ → List Seen
 read_before head = done 1 head 1 (one 0x0b) ∷ published 1 (read 1 ∷ write 2 0x0b ∷ []) ∷ []
 
-pub not_fetched : lacks_order default (read_before 1) ((1, 0) ∷ []) (3 ∷ []) ≡ true
+pub not_fetched : lacks_order no_options default (read_before 1) ((1, 0) ∷ []) (3 ∷ []) ≡ true
 not_fetched = refl
 
-pub fetched : lacks_order default (read_before 2) ((1, 0) ∷ (1, 1) ∷ []) (3 ∷ []) ≡ false
+pub fetched : lacks_order no_options default (read_before 2) ((1, 0) ∷ (1, 1) ∷ []) (3 ∷ []) ≡ false
 fetched = refl
 
 -- a completion queue with one place: the second completion was posted behind the first one's Reap, so behind the Read
@@ -168,8 +170,8 @@ room_behind head =
     reaped 1 head 2 1 0 [] ∷ reaped 1 1 1 1 0 [] ∷ done 2 1 9 (one 0x0b)
     ∷ published 1 (submit 0 0 1 0 0 [] ∷ submit 0 0 2 0 0 [] ∷ write 3 0x0b ∷ []) ∷ published 2 (read 9 ∷ []) ∷ []
 
-pub no_room_before : lacks_order one_place (room_behind 2) ((2, 0) ∷ []) (3 ∷ []) ≡ true
+pub no_room_before : lacks_order no_options one_place (room_behind 2) ((2, 0) ∷ []) (3 ∷ []) ≡ true
 no_room_before = refl
 
-pub fetched_in_time : lacks_order one_place (room_behind 3) ((1, 2) ∷ (2, 0) ∷ []) (3 ∷ []) ≡ false
+pub fetched_in_time : lacks_order no_options one_place (room_behind 3) ((1, 2) ∷ (2, 0) ∷ []) (3 ∷ []) ≡ false
 fetched_in_time = refl

@@ -25,6 +25,7 @@ use Rattle.host_laws.proofs.Verdicts.{status_eq}
 use Rattle.slice_orders.specs.Orders.{is_held, written}
 use Rattle.slice_orders.specs.Pieces.{Held}
 use Rattle.trace.specs.Observed.{observed}
+use Rattle.trace.specs.declared.options.TraceOptions.{TraceOptions}
 use Rattle.trace.specs.declared.seen.ReapedLine.{ReapedLine}
 use Rattle.trace.specs.declared.seen.Seen.{Seen}
 use Rattle.refutation_laws.specs.EffectOrders.{EffectName}
@@ -265,13 +266,14 @@ kept_no c whole n past b r k d =
 abbrev pub HoldsAt : (ℕ → List ℕ) → Past → (ℕ → Type 0) → List ℕ → Type 0
 HoldsAt holds past Out blocks = (l : ℕ) → is_in l blocks ≡ true → (holds l ≡ value past l) ⊎ Out l
 
-pub finds_met : (c : ConfigNumbers) (whole : Past) (n : EffectName) (past : Past) (b : BlockLine) (r : Range)
+pub finds_met : (options : TraceOptions) (c : ConfigNumbers) (whole : Past) (n : EffectName) (past : Past)
+    (b : BlockLine) (r : Range)
     (blocks : List ℕ) (names : List EffectName) (holds : ℕ → List ℕ) (Out : ℕ → Type 0) → Kept c whole n past b r
     → HoldsAt holds past Out blocks
-    → ((l : ℕ) (fits : List ℕ → Bool) → Out l → none_else c (observed c whole) names n l fits ≡ true
+    → ((l : ℕ) (fits : List ℕ → Bool) → Out l → none_else options c (observed c whole) names n l fits ≡ true
     → fits (value past l) ≡ true → ⊥)
-    → list_all (is_held holds) (finds_of c (observed c whole) blocks names n) ≡ true
-finds_met c whole n past b r blocks names holds Out k h f =
+    → list_all (is_held holds) (finds_of options c (observed c whole) blocks names n) ≡ true
+finds_met options c whole n past b r blocks names holds Out k h f =
     go (looks (op m)) refl (says_differs (answer_of trace n)) refl
   where
     trace : List Seen
@@ -282,7 +284,8 @@ finds_met c whole n past b r blocks names holds Out k h f =
 
     one : looks (op m) ≡ true → says_differs (answer_of trace n) ≡ false → (l : ℕ)
         → In l (filter (λ i. is_in i blocks) (blocks_from r.slba r.blocks))
-        → none_else c trace names n l (λ d. bytes_eq d (found_block (op m) m (answer_data (answer_of trace n)) l))
+        → none_else options c trace names n l
+        (λ d. bytes_eq d (found_block (op m) m (answer_data (answer_of trace n)) l))
         ≡ true
         → bytes_eq (holds l) (found_block (op m) m (answer_data (answer_of trace n)) l) ≡ true
     one z d l i none =
@@ -296,40 +299,42 @@ finds_met c whole n past b r blocks names holds Out k h f =
         ]
 
     each : looks (op m) ≡ true → says_differs (answer_of trace n) ≡ false → (x : Held)
-        → In x (filter (λ y. none_else c trace names n y.0 (λ d. bytes_eq d y.1))
+        → In x (filter (λ y. none_else options c trace names n y.0 (λ d. bytes_eq d y.1))
         (map (λ l. (l, found_block (op m) m (answer_data (answer_of trace n)) l)) (blocks_in c trace blocks n)))
         → is_held holds x ≡ true
     each z d x i =
         let all = map (λ l. (l, found_block (op m) m (answer_data (answer_of trace n)) l))
         (blocks_in c trace blocks n) in
-        let none = filter_holds (λ (y : Held). none_else c trace names n y.0 (λ d. bytes_eq d y.1)) all x i in
+        let none = filter_holds (λ (y : Held). none_else options c trace names n y.0 (λ d. bytes_eq d y.1)) all x i in
         let w = of_map (λ l. let y : Held = (l, found_block (op m) m (answer_data (answer_of trace n)) l) in y)
         (blocks_in c trace blocks n) x
-        (of_filter (λ (y : Held). none_else c trace names n y.0 (λ d. bytes_eq d y.1)) all x i) in
+        (of_filter (λ (y : Held). none_else options c trace names n y.0 (λ d. bytes_eq d y.1)) all x i) in
         let there : In w.0 (filter (λ j. is_in j blocks) (blocks_from r.slba r.blocks)) =
         subst (λ (o : Option Range). In w.0 (filter (λ j. is_in j blocks) (blocks_of o))) k.here.range w.1 in
         ap (is_held holds) w.2
         ∙ one z d w.0 there
-        (ap (λ (y : Held). none_else c trace names n y.0 (λ d. bytes_eq d y.1)) (sym w.2) ∙ none)
+        (ap (λ (y : Held). none_else options c trace names n y.0 (λ d. bytes_eq d y.1)) (sym w.2) ∙ none)
 
     go : (x : Bool) → looks (op m) ≡ x → (y : Bool) → says_differs (answer_of trace n) ≡ y
         → list_all (is_held holds)
-        (cond (x && not y) (filter (λ y. none_else c trace names n y.0 (λ d. bytes_eq d y.1))
+        (cond (x && not y) (filter (λ y. none_else options c trace names n y.0 (λ d. bytes_eq d y.1))
         (map (λ l. (l, found_block (op m) m (answer_data (answer_of trace n)) l)) (blocks_in c trace blocks n))) [])
         ≡ true
     go false z y d = refl
     go true z true d = refl
     go true z false d = all_from (is_held holds) _ (each z d)
 
-pub differs_met : (c : ConfigNumbers) (whole : Past) (n : EffectName) (past : Past) (b : BlockLine) (r : Range)
+pub differs_met : (options : TraceOptions) (c : ConfigNumbers) (whole : Past) (n : EffectName) (past : Past)
+    (b : BlockLine) (r : Range)
     (blocks : List ℕ) (names : List EffectName) (holds : ℕ → List ℕ) (Out : ℕ → Type 0) → Kept c whole n past b r
     → HoldsAt holds past Out blocks
-    → ((l : ℕ) (fits : List ℕ → Bool) → Out l → none_else c (observed c whole) names n l fits ≡ true
+    → ((l : ℕ) (fits : List ℕ → Bool) → Out l → none_else options c (observed c whole) names n l fits ≡ true
     → fits (value past l) ≡ true → ⊥)
-    → list_all (λ hs. list_any (λ h. not (is_held holds h)) hs) (differs_of c (observed c whole) blocks names n) ≡ true
-differs_met c whole n past b r blocks names holds Out k h f =
+    → list_all (λ hs. list_any (λ h. not (is_held holds h)) hs)
+    (differs_of options c (observed c whole) blocks names n) ≡ true
+differs_met options c whole n past b r blocks names holds Out k h f =
     go (says_differs (answer_of trace n)) refl
-    (list_all (λ l. is_in l blocks && none_else c trace names n l (λ d. not (bytes_eq d (compare_data m l))))
+    (list_all (λ l. is_in l blocks && none_else options c trace names n l (λ d. not (bytes_eq d (compare_data m l))))
     (blocks_of (range_of c trace n))) refl
   where
     trace : List Seen
@@ -339,10 +344,11 @@ differs_met c whole n past b r blocks names holds Out k h f =
     m = ticket_of trace n
 
     differ : (l : ℕ) → bytes_eq (value past l) (compare_data m l) ≡ false
-        → (is_in l blocks && none_else c trace names n l (λ d. not (bytes_eq d (compare_data m l)))) ≡ true
+        → (is_in l blocks && none_else options c trace names n l (λ d. not (bytes_eq d (compare_data m l)))) ≡ true
         → not (bytes_eq (holds l) (compare_data m l)) ≡ true
     differ l e none =
-        let a = and_parts (is_in l blocks) (none_else c trace names n l (λ d. not (bytes_eq d (compare_data m l))))
+        let a = and_parts (is_in l blocks)
+        (none_else options c trace names n l (λ d. not (bytes_eq d (compare_data m l))))
         none in
         elim (h l a.0) [
           | inl q ↦ ap (λ (y : List ℕ). not (bytes_eq y (compare_data m l))) q ∙ ap not e
@@ -350,7 +356,8 @@ differs_met c whole n past b r blocks names holds Out k h f =
         ]
 
     some : says_differs (answer_of trace n) ≡ true
-        → list_all (λ l. is_in l blocks && none_else c trace names n l (λ d. not (bytes_eq d (compare_data m l))))
+        → list_all (λ l. is_in l blocks
+        && none_else options c trace names n l (λ d. not (bytes_eq d (compare_data m l))))
         (blocks_of (range_of c trace n)) ≡ true
         → list_any (λ x. not (is_held holds x)) (map (λ l. (l, compare_data m l)) (blocks_of (range_of c trace n)))
         ≡ true
@@ -363,11 +370,12 @@ differs_met c whole n past b r blocks names holds Out k h f =
         (w.0, compare_data m w.0)
         (in_map (λ l. let y : Held = (l, compare_data m l) in y) (blocks_of (range_of c trace n)) w.0 there)
         (differ w.0 w.2
-        (all_in (λ l. is_in l blocks && none_else c trace names n l (λ d. not (bytes_eq d (compare_data m l))))
+        (all_in (λ l. is_in l blocks && none_else options c trace names n l (λ d. not (bytes_eq d (compare_data m l))))
         (blocks_of (range_of c trace n)) w.0 all there))
 
     go : (x : Bool) → says_differs (answer_of trace n) ≡ x → (y : Bool)
-        → list_all (λ l. is_in l blocks && none_else c trace names n l (λ d. not (bytes_eq d (compare_data m l))))
+        → list_all (λ l. is_in l blocks
+        && none_else options c trace names n l (λ d. not (bytes_eq d (compare_data m l))))
         (blocks_of (range_of c trace n)) ≡ y
         → list_all (λ hs. list_any (λ h. not (is_held holds h)) hs)
         (cond (x && y) (map (λ l. (l, compare_data m l)) (blocks_of (range_of c trace n)) ∷ []) []) ≡ true

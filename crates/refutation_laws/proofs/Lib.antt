@@ -37,3 +37,4 @@ pub mod FirstAnswered
 pub mod EarlySeconds
 pub mod QueueBooks
 pub mod BookAnswers
+pub mod ReadSlices

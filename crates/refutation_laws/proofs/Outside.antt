@@ -22,6 +22,7 @@ use Rattle.nvme_model.proofs.Cut.{clash}
 use Rattle.host_laws.proofs.Elements.{In, any_in}
 use Rattle.host_laws.proofs.Reaps.{published_real}
 use Rattle.trace.specs.Observed.{observed}
+use Rattle.trace.specs.declared.options.TraceOptions.{TraceOptions}
 use Rattle.trace.specs.declared.seen.Seen.{Seen}
 use Rattle.refutation_laws.specs.Effects.{effect_by, is_effect_of}
 use Rattle.refutation_laws.specs.Lines.{is_tidy, published_in}
@@ -145,41 +146,45 @@ pub record OutLast (c : ConfigNumbers) (trace : List Seen) (names : List EffectN
       → effect_named e by ≡ None
 
 -- it can't have left what fits
-pub outside_clash : (c : ConfigNumbers) (whole past : Past) (b : BlockLine) (names : List EffectName) (l : ℕ)
+pub outside_clash : (options : TraceOptions) (c : ConfigNumbers) (whole past : Past) (b : BlockLine)
+    (names : List EffectName) (l : ℕ)
     (fits : List ℕ → Bool) → HasSlots c → IsLegal c whole → is_tidy (observed c whole) ≡ true
     → Part whole (Entry.Block b ∷ past)
     → b.effect ≡ true → OutLast c (observed c whole) names past l
-    → none_else c (observed c whole) names (name_at past b) l fits ≡ true → fits (value past l) ≡ true → ⊥
-outside_clash c whole past b names l fits slots h d p e o none fit =
+    → none_else options c (observed c whole) names (name_at past b) l fits ≡ true → fits (value past l) ≡ true → ⊥
+outside_clash options c whole past b names l fits slots h d p e newest none fit =
     let trace = observed c whole in
     let n = name_at past b in
-    let y = o.by in
+    let y = newest.by in
     let x = effect_here c whole past b h d p e in
     let tail = part_tail whole (Entry.Block b) past p in
     let legal = part_legal c whole past h tail in
     let first : effect_named past n ≡ None = none_before c past b n.queue n.number n.unit
     (part_legal c whole (Entry.Block b ∷ past) h p) (named_here past b e) in
-    let there = to_whole c whole past y o.before h tail o.is in
+    let there = to_whole c whole past y newest.before h tail newest.is in
     let all = all_in
-    (λ m. is_named names m || not (may_be_found c trace l m n && fits (write_data (ticket_of trace m) l)))
-    (effects_in c trace) y none (in_effects c whole y o.before h there) in
-    let not_after : comes_before c trace n y ≡ true → ⊥ =
+    (λ m. is_named names m || not (may_be_found options c trace l m n && fits (write_data (ticket_of trace m) l)))
+    (effects_in c trace) y none (in_effects c whole y newest.before h there) in
+    let not_after : comes_before options c trace n y ≡ true → ⊥ =
     λ q.
-    let f = comes_first c whole n y o.before slots h d q there in
-    let g = from_before c past y n o.before f.0 legal o.is f.1 in
+    let f = comes_first options c whole n y newest.before slots h d q there in
+    let g = from_before c past y n newest.before f.0 legal newest.is f.1 in
     none_some past n first f.0 g in
-    let not_covered : is_covered c trace l y n ≡ true → ⊥ =
+    let not_covered : is_covered options c trace l y n ≡ true → ⊥ =
     λ q.
-    let w = any_in (λ m. surely_writes c trace m l && comes_before c trace y m && comes_before c trace m n)
+    let w = any_in (λ m. surely_writes c trace m l && comes_before options c trace y m
+    && comes_before options c trace m n)
     (effects_in c trace) q in
-    let s = and_parts (surely_writes c trace w.0 l && comes_before c trace y w.0) (comes_before c trace w.0 n) w.2 in
-    let t = and_parts (surely_writes c trace w.0 l) (comes_before c trace y w.0) s.0 in
-    let f = comes_first c whole w.0 n past slots h d s.1 x.there in
-    let g = comes_first c whole y w.0 f.0 slots h d t.1 (to_whole c whole past w.0 f.0 h tail f.1) in
-    none_some f.0 y (o.last w.0 f.0 f.1 t.0) g.0 g.1 in
-    refuted (is_named names y) (may_write c trace y l) (comes_before c trace n y) (is_covered c trace l y n)
-    (fits (write_data (ticket_of trace y) l)) all o.out o.may not_after not_covered
-    (ap fits (sym o.wrote) ∙ fit)
+    let s = and_parts (surely_writes c trace w.0 l
+    && comes_before options c trace y w.0) (comes_before options c trace w.0 n) w.2 in
+    let t = and_parts (surely_writes c trace w.0 l) (comes_before options c trace y w.0) s.0 in
+    let f = comes_first options c whole w.0 n past slots h d s.1 x.there in
+    let g = comes_first options c whole y w.0 f.0 slots h d t.1 (to_whole c whole past w.0 f.0 h tail f.1) in
+    none_some f.0 y (newest.last w.0 f.0 f.1 t.0) g.0 g.1 in
+    refuted (is_named names y) (may_write c trace y l) (comes_before options c trace n y)
+    (is_covered options c trace l y n)
+    (fits (write_data (ticket_of trace y) l)) all newest.out newest.may not_after not_covered
+    (ap fits (sym newest.wrote) ∙ fit)
   where
     none_some : (q : Past) (m : EffectName) → effect_named q m ≡ None → (f : Past) → effect_named q m ≡ Some f → ⊥
     none_some q m z f g = let w : None ≡ Some f = sym z ∙ g in cc

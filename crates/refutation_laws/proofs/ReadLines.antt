@@ -181,7 +181,7 @@ same_answer o (Seen.Reaped r ∷ seen) (Seen.Reaped t ∷ trace) q j h =
 
 -- ---- pairs
 
-before_reads : (o : TraceOptions) (seen trace : List Seen) (q j : ℕ) → Reads o seen trace
+pub before_reads : (o : TraceOptions) (seen trace : List Seen) (q j : ℕ) → Reads o seen trace
     → Reads o (before_entry seen q j) (before_entry trace q j)
 before_reads o [] [] q j h = tt
 before_reads o [] (t ∷ trace) q j h = absurd h

@@ -85,7 +85,7 @@ exact_entry o kept e t (p, inl h) =
     ap₂ (λ (x y : List ℕ). let s : Submission = record { entry = x; payload = y } in s) h p
 exact_entry o kept e t (p, inr h) = absurd (let f : true ≡ false = sym h.0 ∙ kept in cc)
 
-exact_entries : (o : TraceOptions) (seen trace : List Seen) (q : ℕ) → o.statuses_any ≡ false → Reads o seen trace
+pub exact_entries : (o : TraceOptions) (seen trace : List Seen) (q : ℕ) → o.statuses_any ≡ false → Reads o seen trace
     → published_in seen q ≡ published_in trace q
 exact_entries o seen trace q kept h =
     are_same (ReadsEntry o) (exact_entry o kept) (published_in seen q) (published_in trace q)
@@ -250,10 +250,15 @@ front_of R (x ∷ xs) (y ∷ ys) vs h =
     let r = front_of R xs ys vs h.1 in
     (x ∷ r.0, r.1, ap (λ (l : List _). x ∷ l) r.2, r.3)
 
-pub nothing_reads : (o : TraceOptions) (c : ConfigNumbers) (past : Past) (more trace : List Seen)
-    → o.contents_unknown ≡ false → is_accepted c ≡ true → is_bad_read_line o c trace ≡ true
-    → Explains o c past (more ++ trace) → ⊥
-nothing_reads o c past more trace known a bad h =
+-- a beginning of the history, which shows what is read as the first lines
+pub record ReadsFirst (o : TraceOptions) (c : ConfigNumbers) (trace : List Seen) : Type 0 where
+  pub start : Past
+  pub legal : IsLegal c start
+  pub reads : Reads o (observed c start) trace
+
+pub reads_first : (o : TraceOptions) (c : ConfigNumbers) (past : Past) (more trace : List Seen)
+    → o.contents_unknown ≡ false → Explains o c past (more ++ trace) → ReadsFirst o c trace
+reads_first o c past more trace known h =
     let none : aside_pair o c ≡ None = ap (λ (b : Bool). cond b (Some c.pairs) None) known in
     let all : own (aside_pair o c) (observed c past) ≡ observed c past =
     ap (λ (n : Option ℕ). own n (observed c past)) none ∙ own_all (observed c past) in
@@ -261,6 +266,16 @@ nothing_reads o c past more trace known a bad h =
     subst (λ (seen : List Seen). Reads o seen (more ++ trace)) all h.1.1 in
     let f = front_of (ReadsAs o) (observed c past) more trace reads in
     let b = beginning c past f.0 f.1 f.2 in
-    let legal : IsLegal c b.1 = earlier c b.0 b.1 (subst (λ (p : Past). IsLegal c p) b.2 h.0) in
-    let good = read_line o c b.1 f.1 trace a legal b.3 f.3 in
+    record {
+      start = b.1;
+      legal = earlier c b.0 b.1 (subst (λ (p : Past). IsLegal c p) b.2 h.0);
+      reads = subst (λ (seen : List Seen). Reads o seen trace) (sym b.3) f.3;
+    }
+
+pub nothing_reads : (o : TraceOptions) (c : ConfigNumbers) (past : Past) (more trace : List Seen)
+    → o.contents_unknown ≡ false → is_accepted c ≡ true → is_bad_read_line o c trace ≡ true
+    → Explains o c past (more ++ trace) → ⊥
+nothing_reads o c past more trace known a bad h =
+    let b = reads_first o c past more trace known h in
+    let good = read_line o c b.start (observed c b.start) trace a b.legal refl b.reads in
     let z : true ≡ false = sym bad ∙ good in cc

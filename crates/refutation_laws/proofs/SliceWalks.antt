@@ -1,7 +1,7 @@
 -- The effects of a slice, in the order of a history, are an order of its pieces.
 use Rattle.nvme_model.specs.Slots
 use Rattle.nvme_model.specs.Tickets
-use Rattle.std.proofs.Common.{◌≡◌, ℕ, ◌+◌, ◌<◌, Bool, true, false, not, ◌&&◌, ◌||◌, cond, List, [], ◌∷◌}
+use Rattle.std.proofs.Common.{◌≡◌, ℕ, ◌+◌, ◌<◌, Bool, true, false, not, ◌&&◌, ◌||◌, cond, List, [], ◌∷◌, ◌++◌}
 use Rattle.std.proofs.Common.{length, map, refl, sym, ap, ◌∙◌, subst, Option, Some, None, inl, inr}
 use Rattle.std.proofs.Common.{◌⊎◌, arith, eqb, slice_get}
 use Rattle.std.specs.List.{filter, flat_map, list_any, range_with_len}
@@ -27,8 +27,7 @@ use Rattle.slice_orders.specs.Orders.{IsOrder, IsWay, has, held_by, is_held, is_
 use Rattle.slice_orders.specs.Orders.{writes_by}
 use Rattle.slice_orders.specs.Pieces.{Piece, Slice}
 use Rattle.trace.specs.Observed.{Explains, observed}
-use Rattle.trace.specs.Options.{no_options}
-use Rattle.trace.proofs.Beginnings.{all_explained}
+use Rattle.trace.specs.declared.options.TraceOptions.{TraceOptions}
 use Rattle.trace.specs.declared.seen.Seen.{Seen}
 use Rattle.refutation_laws.specs.Effects.{is_effect_of}
 use Rattle.refutation_laws.specs.Lines.{is_tidy}
@@ -46,6 +45,9 @@ use Rattle.refutation_laws.proofs.OrderRules.{comes_first}
 use Rattle.refutation_laws.proofs.NamedEffects.{effect_says, none_before}
 use Rattle.refutation_laws.proofs.Outside.{OutLast, Part, effect_here, effect_named, from_before, name_at, named_here}
 use Rattle.refutation_laws.proofs.Outside.{outside_clash, part_legal, part_tail, to_whole}
+use Rattle.refutation_laws.proofs.ReadLines.{same_tidy}
+use Rattle.refutation_laws.proofs.ReadRules.{reads_first}
+use Rattle.refutation_laws.proofs.ReadSlices.{same_slice}
 use Rattle.refutation_laws.proofs.SliceLists.{AreDistinct, all_from, filter_holds, get_in, get_map, get_number, has_in}
 use Rattle.refutation_laws.proofs.SliceLists.{in_has, none_from, none_number, number_from, number_get, of_get_map}
 use Rattle.refutation_laws.proofs.SliceLists.{of_numbers, of_once, once_distinct, where_holds}
@@ -76,8 +78,8 @@ made c trace names (Entry.Block b ∷ past) = with_number (number_at c trace nam
 made c trace names (_ ∷ past) = made c trace names past
 
 -- the slice of these effects
-abbrev pub slice_by : ConfigNumbers → List Seen → List EffectName → List ℕ → Slice
-slice_by c trace names blocks = map (piece_of c trace blocks names) names
+abbrev pub slice_by : TraceOptions → ConfigNumbers → List Seen → List EffectName → List ℕ → Slice
+slice_by options c trace names blocks = map (piece_of options c trace blocks names) names
 
 -- ---- what holds at each place
 
@@ -92,32 +94,33 @@ SureMade c trace names past = (i : ℕ) (n : EffectName) (before : Past) → sli
     → is_sure c trace n.queue n.number n.unit ≡ true → effect_named past n ≡ Some before
     → In i (made c trace names past)
 
-pub record Walk (c : ConfigNumbers) (trace : List Seen) (names : List EffectName) (blocks : List ℕ) (past : Past)
-    : Type 0 where
-  pub way : IsWay zeros (slice_by c trace names blocks) (made c trace names past)
+pub record Walk (options : TraceOptions) (c : ConfigNumbers) (trace : List Seen) (names : List EffectName)
+    (blocks : List ℕ) (past : Past) : Type 0 where
+  pub way : IsWay zeros (slice_by options c trace names blocks) (made c trace names past)
   pub all : AllMade c trace names past
   pub sure : SureMade c trace names past
-  pub holds : HoldsAt (held_by zeros (slice_by c trace names blocks) (made c trace names past)) past
+  pub holds : HoldsAt (held_by zeros (slice_by options c trace names blocks) (made c trace names past)) past
       (OutLast c trace names past) blocks
 
 -- ---- an entry that is no effect
 
 -- an entry that leaves pieces, effects and blocks as they were
-carried : (c : ConfigNumbers) (trace : List Seen) (names : List EffectName) (blocks : List ℕ) (past : Past) (e : Entry)
+carried : (options : TraceOptions) (c : ConfigNumbers) (trace : List Seen) (names : List EffectName) (blocks : List ℕ)
+    (past : Past) (e : Entry)
     → made c trace names (e ∷ past) ≡ made c trace names past
     → ((n : EffectName) → effect_named (e ∷ past) n ≡ effect_named past n)
-    → ((l : ℕ) → value (e ∷ past) l ≡ value past l) → Walk c trace names blocks past
-    → Walk c trace names blocks (e ∷ past)
-carried c trace names blocks past e kept same unwritten w =
+    → ((l : ℕ) → value (e ∷ past) l ≡ value past l) → Walk options c trace names blocks past
+    → Walk options c trace names blocks (e ∷ past)
+carried options c trace names blocks past e kept same unwritten w =
     record {
-      way = subst (λ (xs : List ℕ). IsWay zeros (slice_by c trace names blocks) xs) (sym kept) w.way;
+      way = subst (λ (xs : List ℕ). IsWay zeros (slice_by options c trace names blocks) xs) (sym kept) w.way;
       all = λ i m.
           let r = w.all i (subst (λ (xs : List ℕ). In i xs) kept m) in
           (r.0, r.1, r.2, same r.0 ∙ r.3);
       sure = λ i n before g s f.
           subst (λ (xs : List ℕ). In i xs) (sym kept) (w.sure i n before g s (sym (same n) ∙ f));
       holds = λ l h. elim (w.holds l h) [
-        | inl x ↦ inl (ap (λ (xs : List ℕ). held_by zeros (slice_by c trace names blocks) xs l) kept
+        | inl x ↦ inl (ap (λ (xs : List ℕ). held_by zeros (slice_by options c trace names blocks) xs l) kept
             ∙ (x ∙ sym (unwritten l)))
         | inr x ↦ inr (record {
           by = x.by;
@@ -131,10 +134,12 @@ carried c trace names blocks past e kept same unwritten w =
       ];
     }
 
-same_with : (c : ConfigNumbers) (trace : List Seen) (names : List EffectName) (blocks : List ℕ) (past : Past)
-    (b : BlockLine) → b.effect ≡ false → Walk c trace names blocks past
-    → Walk c trace names blocks (Entry.Block b ∷ past)
-same_with c trace names blocks past b e w = carried c trace names blocks past (Entry.Block b) kept same unwritten w
+same_with : (options : TraceOptions) (c : ConfigNumbers) (trace : List Seen) (names : List EffectName)
+    (blocks : List ℕ) (past : Past)
+    (b : BlockLine) → b.effect ≡ false → Walk options c trace names blocks past
+    → Walk options c trace names blocks (Entry.Block b ∷ past)
+same_with options c trace names blocks past b e w = carried options c trace names blocks past
+    (Entry.Block b) kept same unwritten w
   where
     none : (x : Bool) → b.effect ≡ false → (b.effect && x) ≡ false
     none x f = ap (λ (y : Bool). y && x) f
@@ -156,7 +161,8 @@ same_with c trace names blocks past b e w = carried c trace names blocks past (E
 
 -- ---- a Block entry that is an effect
 
-module _ (c : ConfigNumbers) (whole : Past) (names : List EffectName) (blocks : List ℕ) (slots : HasSlots c)
+module _ (options : TraceOptions) (c : ConfigNumbers) (whole : Past) (names : List EffectName) (blocks : List ℕ)
+    (slots : HasSlots c)
     (legal : IsLegal c whole)
     (tidy : is_tidy (observed c whole) ≡ true) (distinct : AreDistinct names)
     (pieces : (n : EffectName) → In n names → is_piece c (observed c whole) n ≡ true) (past : Past) (b : BlockLine)
@@ -265,8 +271,9 @@ module _ (c : ConfigNumbers) (whole : Past) (names : List EffectName) (blocks : 
       ∙ (f ∙ ap Some same)
 
   piece_at : (i : ℕ) (y : EffectName) → slice_get names i ≡ Some y
-      → slice_get (slice_by c (observed c whole) names blocks) i ≡ Some (piece_of c (observed c whole) blocks names y)
-  piece_at i y e = get_map (piece_of c (observed c whole) blocks names) names i y e
+      → slice_get (slice_by options c (observed c whole) names blocks) i ≡ Some
+      (piece_of options c (observed c whole) blocks names y)
+  piece_at i y e = get_map (piece_of options c (observed c whole) blocks names) names i y e
 
   kept : (i : ℕ) → slice_get names i ≡ Some (name_at past b) → is_skipped c (observed c whole) past b ≡ false
       → Kept c whole (name_at past b) past b (unit_range past b.ticket b.unit)
@@ -362,13 +369,13 @@ module _ (c : ConfigNumbers) (whole : Past) (names : List EffectName) (blocks : 
   -- ---- the next place
 
   abbrev slice : Slice
-  slice = slice_by c (observed c whole) names blocks
+  slice = slice_by options c (observed c whole) names blocks
 
   abbrev so_far : List ℕ
   so_far = made c (observed c whole) names past
 
   abbrev Before : Type 0
-  Before = Walk c (observed c whole) names blocks past
+  Before = Walk options c (observed c whole) names blocks past
 
   held_next : (i l : ℕ) → slice_get names i ≡ Some (name_at past b)
       → is_skipped c (observed c whole) past b ≡ false → is_in l blocks ≡ true
@@ -418,12 +425,12 @@ module _ (c : ConfigNumbers) (whole : Past) (names : List EffectName) (blocks : 
       ap (Orders.follows_by zeros slice so_far i) (piece_at i (name_at past b) e)
       ∙ and_from _ _ (and_from _ _ (ap not not_there) (ap not none_after))
       (and_from _ _
-      (finds_met c whole (name_at past b) past b (unit_range past b.ticket b.unit) blocks names
+      (finds_met options c whole (name_at past b) past b (unit_range past b.ticket b.unit) blocks names
       (held_by zeros slice so_far) (OutLast c (observed c whole) names past) (kept i e s) w.holds
-      (λ l fits o none fit. outside_clash c whole past b names l fits slots legal tidy part marked o none fit))
-      (differs_met c whole (name_at past b) past b (unit_range past b.ticket b.unit) blocks names
+      (λ l fits o none fit. outside_clash options c whole past b names l fits slots legal tidy part marked o none fit))
+      (differs_met options c whole (name_at past b) past b (unit_range past b.ticket b.unit) blocks names
       (held_by zeros slice so_far) (OutLast c (observed c whole) names past) (kept i e s) w.holds
-      (λ l fits o none fit. outside_clash c whole past b names l fits slots legal tidy part marked o none fit)))
+      (λ l fits o none fit. outside_clash options c whole past b names l fits slots legal tidy part marked o none fit)))
     where
       not_there : has so_far i ≡ false
       not_there = go (cases_Bool (has so_far i))
@@ -445,16 +452,16 @@ module _ (c : ConfigNumbers) (whole : Past) (names : List EffectName) (blocks : 
           one k j (inr f) = f
           one k j (inl f) =
               let y = w.all k j in
-              let there : has (numbers_where (λ z. comes_before c (observed c whole) z y.0) 0 names) i ≡ true =
+              let there : has (numbers_where (λ z. comes_before options c (observed c whole) z y.0) 0 names) i ≡ true =
               ap (λ (o : Option Piece). has (Orders.behind_by o) i) (sym (piece_at k y.0 y.2)) ∙ f in
-              let x = where_holds (λ z. comes_before c (observed c whole) z y.0) 0 names i
-              (in_has (numbers_where (λ z. comes_before c (observed c whole) z y.0) 0 names) i there) in
+              let x = where_holds (λ z. comes_before options c (observed c whole) z y.0) 0 names i
+              (in_has (numbers_where (λ z. comes_before options c (observed c whole) z y.0) 0 names) i there) in
               let place : x.0 ≡ i = omega (arith, x.2) in
               let at_i : slice_get names i ≡ Some x.1 = ap (slice_get names) (sym place) ∙ x.3 in
               let same = same_some x.1 (name_at past b) (slice_get names i) at_i e in
-              let before : comes_before c (observed c whole) (name_at past b) y.0 ≡ true =
-              subst (λ (z : EffectName). comes_before c (observed c whole) z y.0 ≡ true) same x.4 in
-              let q = comes_first c whole (name_at past b) y.0 y.1 slots legal tidy before
+              let before : comes_before options c (observed c whole) (name_at past b) y.0 ≡ true =
+              subst (λ (z : EffectName). comes_before options c (observed c whole) z y.0 ≡ true) same x.4 in
+              let q = comes_first options c whole (name_at past b) y.0 y.1 slots legal tidy before
               (to_whole c whole past y.0 y.1 legal tail y.3) in
               absurd (not_first q.0 (from_before c past y.0 (name_at past b) y.1 q.0 legal_past y.3 q.1))
 
@@ -475,7 +482,7 @@ module _ (c : ConfigNumbers) (whole : Past) (names : List EffectName) (blocks : 
         subst (λ (o : Option ℕ). In i (with_number o so_far)) (sym number) (inl refl)
   ]
 
-  next : Before → Walk c (observed c whole) names blocks (Entry.Block b ∷ past)
+  next : Before → Walk options c (observed c whole) names blocks (Entry.Block b ∷ past)
   next w = go (number_at c (observed c whole) names past b) refl
     where
       all_old : (i : ℕ) → In i so_far
@@ -484,7 +491,7 @@ module _ (c : ConfigNumbers) (whole : Past) (names : List EffectName) (blocks : 
       all_old i j = let x = w.all i j in (x.0, x.1, x.2, old_effect x.0 x.1 x.3)
 
       go : (o : Option ℕ) → number_at c (observed c whole) names past b ≡ o
-          → Walk c (observed c whole) names blocks (Entry.Block b ∷ past)
+          → Walk options c (observed c whole) names blocks (Entry.Block b ∷ past)
       go None e =
           let same : made c (observed c whole) names (Entry.Block b ∷ past) ≡ so_far =
           ap (λ (o : Option ℕ). with_number o so_far) e in
@@ -520,84 +527,91 @@ module _ (c : ConfigNumbers) (whole : Past) (names : List EffectName) (blocks : 
 
 -- ---- the whole
 
-walk : (c : ConfigNumbers) (whole : Past) (names : List EffectName) (blocks : List ℕ) → HasSlots c → IsLegal c whole
+walk : (options : TraceOptions) (c : ConfigNumbers) (whole : Past) (names : List EffectName) (blocks : List ℕ)
+    → HasSlots c → IsLegal c whole
     → is_tidy (observed c whole) ≡ true → AreDistinct names
     → ((n : EffectName) → In n names → is_piece c (observed c whole) n ≡ true) → (past : Past) → Part whole past
-    → Walk c (observed c whole) names blocks past
-walk c whole names blocks s h d x pieces [] p =
+    → Walk options c (observed c whole) names blocks past
+walk options c whole names blocks s h d x pieces [] p =
     record {
       way = tt;
       all = λ i m. absurd m;
       sure = λ i n before e z f. absurd (let g : None ≡ Some before = f in cc);
       holds = λ l m. inl refl;
     }
-walk c whole names blocks s h d x pieces (Entry.Block b ∷ past) p =
-    by b.effect refl (walk c whole names blocks s h d x pieces past (part_tail whole (Entry.Block b) past p))
+walk options c whole names blocks s h d x pieces (Entry.Block b ∷ past) p =
+    by b.effect refl (walk options c whole names blocks s h d x pieces past (part_tail whole (Entry.Block b) past p))
   where
-    by : (z : Bool) → b.effect ≡ z → Walk c (observed c whole) names blocks past
-        → Walk c (observed c whole) names blocks (Entry.Block b ∷ past)
-    by true e w = next c whole names blocks s h d x pieces past b p e w
-    by false e w = same_with c (observed c whole) names blocks past b e w
-walk c whole names blocks s h d x pieces (Entry.Publish e ∷ past) p =
-    let w = walk c whole names blocks s h d x pieces past (part_tail whole (Entry.Publish e) past p) in
-    carried c (observed c whole) names blocks past (Entry.Publish e) refl (λ n. refl) (λ l. refl) w
-walk c whole names blocks s h d x pieces (Entry.Fetch e ∷ past) p =
-    let w = walk c whole names blocks s h d x pieces past (part_tail whole (Entry.Fetch e) past p) in
-    carried c (observed c whole) names blocks past (Entry.Fetch e) refl (λ n. refl) (λ l. refl) w
-walk c whole names blocks s h d x pieces (Entry.Grant e ∷ past) p =
-    let w = walk c whole names blocks s h d x pieces past (part_tail whole (Entry.Grant e) past p) in
-    carried c (observed c whole) names blocks past (Entry.Grant e) refl (λ n. refl) (λ l. refl) w
-walk c whole names blocks s h d x pieces (Entry.Post e ∷ past) p =
-    let w = walk c whole names blocks s h d x pieces past (part_tail whole (Entry.Post e) past p) in
-    carried c (observed c whole) names blocks past (Entry.Post e) refl (λ n. refl) (λ l. refl) w
-walk c whole names blocks s h d x pieces (Entry.Reap e ∷ past) p =
-    let w = walk c whole names blocks s h d x pieces past (part_tail whole (Entry.Reap e) past p) in
-    carried c (observed c whole) names blocks past (Entry.Reap e) refl (λ n. refl) (λ l. refl) w
+    by : (z : Bool) → b.effect ≡ z → Walk options c (observed c whole) names blocks past
+        → Walk options c (observed c whole) names blocks (Entry.Block b ∷ past)
+    by true e w = next options c whole names blocks s h d x pieces past b p e w
+    by false e w = same_with options c (observed c whole) names blocks past b e w
+walk options c whole names blocks s h d x pieces (Entry.Publish e ∷ past) p =
+    let w = walk options c whole names blocks s h d x pieces past (part_tail whole (Entry.Publish e) past p) in
+    carried options c (observed c whole) names blocks past (Entry.Publish e) refl (λ n. refl) (λ l. refl) w
+walk options c whole names blocks s h d x pieces (Entry.Fetch e ∷ past) p =
+    let w = walk options c whole names blocks s h d x pieces past (part_tail whole (Entry.Fetch e) past p) in
+    carried options c (observed c whole) names blocks past (Entry.Fetch e) refl (λ n. refl) (λ l. refl) w
+walk options c whole names blocks s h d x pieces (Entry.Grant e ∷ past) p =
+    let w = walk options c whole names blocks s h d x pieces past (part_tail whole (Entry.Grant e) past p) in
+    carried options c (observed c whole) names blocks past (Entry.Grant e) refl (λ n. refl) (λ l. refl) w
+walk options c whole names blocks s h d x pieces (Entry.Post e ∷ past) p =
+    let w = walk options c whole names blocks s h d x pieces past (part_tail whole (Entry.Post e) past p) in
+    carried options c (observed c whole) names blocks past (Entry.Post e) refl (λ n. refl) (λ l. refl) w
+walk options c whole names blocks s h d x pieces (Entry.Reap e ∷ past) p =
+    let w = walk options c whole names blocks s h d x pieces past (part_tail whole (Entry.Reap e) past p) in
+    carried options c (observed c whole) names blocks past (Entry.Reap e) refl (λ n. refl) (λ l. refl) w
 
 -- each sure piece is there
-all_sure : (c : ConfigNumbers) (whole : Past) (names : List EffectName) (blocks : List ℕ) → IsLegal c whole
-    → is_tidy (observed c whole) ≡ true → Walk c (observed c whole) names blocks whole
-    → is_whole (slice_by c (observed c whole) names blocks) (made c (observed c whole) names whole) ≡ true
-all_sure c whole names blocks h d w =
-    all_from (λ i. not (Orders.is_sure (slice_by c (observed c whole) names blocks) i)
+all_sure : (options : TraceOptions) (c : ConfigNumbers) (whole : Past) (names : List EffectName) (blocks : List ℕ)
+    → IsLegal c whole
+    → is_tidy (observed c whole) ≡ true → Walk options c (observed c whole) names blocks whole
+    → is_whole (slice_by options c (observed c whole) names blocks) (made c (observed c whole) names whole) ≡ true
+all_sure options c whole names blocks h d w =
+    all_from (λ i. not (Orders.is_sure (slice_by options c (observed c whole) names blocks) i)
     || has (made c (observed c whole) names whole) i)
-    (range_with_len 0 (length (slice_by c (observed c whole) names blocks)))
-    (λ i j. each i (omega (arith, (of_numbers 0 (length (slice_by c (observed c whole) names blocks)) i j).1))
-    (Orders.is_sure (slice_by c (observed c whole) names blocks) i) refl)
+    (range_with_len 0 (length (slice_by options c (observed c whole) names blocks)))
+    (λ i j. each i (omega (arith, (of_numbers 0 (length (slice_by options c (observed c whole) names blocks)) i j).1))
+    (Orders.is_sure (slice_by options c (observed c whole) names blocks) i) refl)
   where
-    each : (i : ℕ) → i < length (slice_by c (observed c whole) names blocks) → (y : Bool)
-        → Orders.is_sure (slice_by c (observed c whole) names blocks) i ≡ y
+    each : (i : ℕ) → i < length (slice_by options c (observed c whole) names blocks) → (y : Bool)
+        → Orders.is_sure (slice_by options c (observed c whole) names blocks) i ≡ y
         → (not y || has (made c (observed c whole) names whole) i) ≡ true
     each i l false e = refl
     each i l true e =
-        let x = of_get_map (piece_of c (observed c whole) blocks names) names i l in
-        let piece = get_map (piece_of c (observed c whole) blocks names) names i x.0 x.1 in
+        let x = of_get_map (piece_of options c (observed c whole) blocks names) names i l in
+        let piece = get_map (piece_of options c (observed c whole) blocks names) names i x.0 x.1 in
         let sure : is_sure c (observed c whole) x.0.queue x.0.number x.0.unit ≡ true =
         ap Orders.sure_by (sym piece) ∙ e in
         let there = sure_effect c whole x.0.queue x.0.number x.0.unit h d sure in
         has_in (made c (observed c whole) names whole) i (w.sure i x.0 there.0 x.1 sure there.1)
 
 -- so the effects of a slice are an order of it
-an_order : (c : ConfigNumbers) (whole : Past) (commands : List (ℕ × ℕ)) (blocks : List ℕ) → HasSlots c → IsLegal c whole
+an_order : (options : TraceOptions) (c : ConfigNumbers) (whole : Past) (commands : List (ℕ × ℕ)) (blocks : List ℕ)
+    → HasSlots c → IsLegal c whole
     → is_tidy (observed c whole) ≡ true
-    → IsOrder zeros (slice_of c (observed c whole) commands blocks)
+    → IsOrder zeros (slice_of options c (observed c whole) commands blocks)
     (made c (observed c whole) (slice_names c (observed c whole) commands) whole)
-an_order c whole commands blocks s h d =
+an_order options c whole commands blocks s h d =
     let trace = observed c whole in
     let some = flat_map (λ k. effects_of_command c trace k.0 k.1) commands in
     let kept = filter (is_piece c trace) some in
     let names = slice_names c trace commands in
-    let w = walk c whole names blocks s h d (once_distinct kept)
+    let w = walk options c whole names blocks s h d (once_distinct kept)
     (λ n i. filter_holds (is_piece c trace) some n (of_once kept n i)) whole ([], refl) in
-    (w.way, all_sure c whole names blocks h d w)
+    (w.way, all_sure options c whole names blocks h d w)
 
-pub order_of_history : (c : ConfigNumbers) (past : Past) (trace : List Seen) (commands : List (ℕ × ℕ)) (blocks : List ℕ)
-    → is_accepted c ≡ true → Explains no_options c past trace → is_tidy trace ≡ true
-    → (order : List ℕ) × IsOrder zeros (slice_of c trace commands blocks) order
-order_of_history c past trace commands blocks a x d =
-    let h = all_explained c past trace x in (
-      made c (observed c past) (slice_names c (observed c past) commands) past,
-      subst (λ (t : List Seen). IsOrder zeros (slice_of c t commands blocks)
-          (made c (observed c past) (slice_names c (observed c past) commands) past)) h.1
-          (an_order c past commands blocks (has_slots c a) h.0 (ap is_tidy h.1 ∙ d)),
+-- also of the slice of a trace that is read of it
+pub order_as_read : (o : TraceOptions) (c : ConfigNumbers) (past : Past) (more trace : List Seen)
+    (commands : List (ℕ × ℕ)) (blocks : List ℕ) → o.contents_unknown ≡ false → o.statuses_any ≡ false
+    → is_accepted c ≡ true → Explains o c past (more ++ trace) → is_tidy trace ≡ true
+    → (order : List ℕ) × IsOrder zeros (slice_of o c trace commands blocks) order
+order_as_read o c past more trace commands blocks known exact a x d =
+    let b = reads_first o c past more trace known x in
+    let tidy = same_tidy o (observed c b.start) trace b.reads ∙ d in (
+      made c (observed c b.start) (slice_names c (observed c b.start) commands) b.start,
+      subst (λ (slice : Slice). IsOrder zeros slice
+          (made c (observed c b.start) (slice_names c (observed c b.start) commands) b.start))
+          (same_slice o c exact (observed c b.start) trace commands blocks b.reads)
+          (an_order o c b.start commands blocks (has_slots c a) b.legal tidy),
     )

@@ -1,10 +1,12 @@
 -- The order of effects that a trace tells.
-use Rattle.std.specs.Prelude.{Bool, List, [], false, if◌then◌else◌, length, nat_le, nat_lt, suc, ℕ, ◌%◌, ◌&&◌, ◌+◌, ◌-◌}
+use Rattle.std.specs.Prelude.{Bool, List, [], false, if◌then◌else◌, length, nat_le, nat_lt, not, suc, ℕ, ◌%◌, ◌&&◌, ◌+◌}
+use Rattle.std.specs.Prelude.{◌-◌}
 use Rattle.std.specs.Prelude.{◌==◌, ◌||◌, ◌∷◌}
 use Rattle.nvme_model.specs.Config.{completion_queue}
 use Rattle.nvme_model.specs.EntryBytes.{cqe_fields}
 use Rattle.nvme_model.specs.Operations.{is_pair, op}
 use Rattle.nvme_model.specs.declared.config.ConfigNumbers.{ConfigNumbers}
+use Rattle.trace.specs.declared.options.TraceOptions.{TraceOptions}
 use Rattle.trace.specs.declared.seen.ReapedLine.{ReapedLine}
 use Rattle.trace.specs.declared.seen.Seen.{Seen}
 use Rattle.refutation_laws.specs.LineRules.{least_fetched}
@@ -89,6 +91,8 @@ is_told_by_head c (Seen.Reaped r ∷ trace) a b =
 
 -- ---- the order
 
--- In each history that shows this trace effect a stands before effect b, where it has b.
-abbrev pub comes_before : ConfigNumbers → List Seen → EffectName → EffectName → Bool
-comes_before c trace a b = ends_before c trace a b || is_earlier_unit a b || is_told_by_head c trace a b
+-- In each history that explains this trace effect a stands before effect b, where it has b. SQHD is asked where it
+-- isn't ignored.
+abbrev pub comes_before : TraceOptions → ConfigNumbers → List Seen → EffectName → EffectName → Bool
+comes_before o c trace a b =
+    ends_before c trace a b || is_earlier_unit a b || (not o.ignored.sqhd && is_told_by_head c trace a b)

@@ -13,6 +13,7 @@ use Rattle.nvme_model.specs.declared.array.Range.{Range}
 use Rattle.nvme_model.specs.declared.config.ConfigNumbers.{ConfigNumbers}
 use Rattle.nvme_model.specs.declared.operation.Op.{Op}
 use Rattle.host_laws.specs.Calls.{cqe_status}
+use Rattle.trace.specs.declared.options.TraceOptions.{TraceOptions}
 use Rattle.trace.specs.declared.seen.ReapedLine.{ReapedLine}
 use Rattle.trace.specs.declared.seen.Seen.{Seen}
 use Rattle.slice_orders.specs.Pieces.{Held, Piece, Slice}
@@ -71,15 +72,15 @@ effects_in c trace =
     (range_with_len 1 c.pairs)
 
 -- An effect that surely writes block l stands between y and r.
-abbrev pub is_covered : ConfigNumbers → List Seen → ℕ → EffectName → EffectName → Bool
-is_covered c trace l y r =
-    list_any (λ x. surely_writes c trace x l && comes_before c trace y x && comes_before c trace x r)
+abbrev pub is_covered : TraceOptions → ConfigNumbers → List Seen → ℕ → EffectName → EffectName → Bool
+is_covered o c trace l y r =
+    list_any (λ x. surely_writes c trace x l && comes_before o c trace y x && comes_before o c trace x r)
     (effects_in c trace)
 
 -- Effect y may be the last before r that writes block l.
-abbrev pub may_be_found : ConfigNumbers → List Seen → ℕ → EffectName → EffectName → Bool
-may_be_found c trace l y r =
-    may_write c trace y l && not (comes_before c trace r y) && not (is_covered c trace l y r)
+abbrev pub may_be_found : TraceOptions → ConfigNumbers → List Seen → ℕ → EffectName → EffectName → Bool
+may_be_found o c trace l y r =
+    may_write c trace y l && not (comes_before o c trace r y) && not (is_covered o c trace l y r)
 
 -- both are one effect
 abbrev pub same_effect : EffectName → EffectName → Bool
@@ -90,9 +91,10 @@ abbrev pub is_named : List EffectName → EffectName → Bool
 is_named names n = list_any (λ m. same_effect m n) names
 
 -- What `fits` says of holds of nothing that effects but these may have left on block l before r.
-abbrev pub none_else : ConfigNumbers → List Seen → List EffectName → EffectName → ℕ → (List ℕ → Bool) → Bool
-none_else c trace names r l fits =
-    list_all (λ y. is_named names y || not (may_be_found c trace l y r && fits (write_data (ticket_of trace y) l)))
+abbrev pub none_else : TraceOptions → ConfigNumbers → List Seen → List EffectName → EffectName → ℕ → (List ℕ → Bool)
+    → Bool
+none_else o c trace names r l fits =
+    list_all (λ y. is_named names y || not (may_be_found o c trace l y r && fits (write_data (ticket_of trace y) l)))
     (effects_in c trace)
 
 -- ---- the pieces of a slice
@@ -119,23 +121,24 @@ abbrev pub blocks_in : ConfigNumbers → List Seen → List ℕ → EffectName �
 blocks_in c trace blocks n = filter (λ l. is_in l blocks) (blocks_of (range_of c trace n))
 
 -- What an effect of the slice found on blocks, where no effect outside can have left it there.
-abbrev pub finds_of : ConfigNumbers → List Seen → List ℕ → List EffectName → EffectName → List Held
-finds_of c trace blocks names n =
+abbrev pub finds_of : TraceOptions → ConfigNumbers → List Seen → List ℕ → List EffectName → EffectName → List Held
+finds_of o c trace blocks names n =
     let k = ticket_of trace n in
     let a = answer_of trace n in
     if looks (op k) && not (says_differs a)
-    then filter (λ h. none_else c trace names n h.0 (λ d. bytes_eq d h.1))
+    then filter (λ h. none_else o c trace names n h.0 (λ d. bytes_eq d h.1))
     (map (λ l. (l, found_block (op k) k (answer_data a) l)) (blocks_in c trace blocks n))
     else []
 
 -- The blocks of an effect that said no, with the data one of them wasn't, where no effect outside can have left
 -- anything else there.
-abbrev pub differs_of : ConfigNumbers → List Seen → List ℕ → List EffectName → EffectName → List (List Held)
-differs_of c trace blocks names n =
+abbrev pub differs_of : TraceOptions → ConfigNumbers → List Seen → List ℕ → List EffectName → EffectName
+    → List (List Held)
+differs_of o c trace blocks names n =
     let k = ticket_of trace n in
     let ls = blocks_of (range_of c trace n) in
     if says_differs (answer_of trace n)
-    && list_all (λ l. is_in l blocks && none_else c trace names n l (λ d. not (bytes_eq d (compare_data k l)))) ls
+    && list_all (λ l. is_in l blocks && none_else o c trace names n l (λ d. not (bytes_eq d (compare_data k l)))) ls
     then map (λ l. (l, compare_data k l)) ls ∷ []
     else []
 
@@ -154,13 +157,13 @@ numbers_where test i (n ∷ names) =
     if test n then i ∷ numbers_where test (suc i) names else numbers_where test (suc i) names
 
 -- The piece that an effect of a slice is.
-abbrev pub piece_of : ConfigNumbers → List Seen → List ℕ → List EffectName → EffectName → Piece
-piece_of c trace blocks names n =
+abbrev pub piece_of : TraceOptions → ConfigNumbers → List Seen → List ℕ → List EffectName → EffectName → Piece
+piece_of o c trace blocks names n =
     record {
       sure = is_sure c trace n.queue n.number n.unit;
-      behind = numbers_where (λ m. comes_before c trace m n) 0 names;
-      finds = finds_of c trace blocks names n;
-      differs = differs_of c trace blocks names n;
+      behind = numbers_where (λ m. comes_before o c trace m n) 0 names;
+      finds = finds_of o c trace blocks names n;
+      differs = differs_of o c trace blocks names n;
       writes = writes_of c trace blocks n;
     }
 
@@ -181,7 +184,7 @@ slice_names c trace commands =
     each_once (filter (is_piece c trace) (flat_map (λ m. effects_of_command c trace m.0 m.1) commands))
 
 -- The slice of these commands of a trace that looks at these blocks.
-abbrev pub slice_of : ConfigNumbers → List Seen → List (ℕ × ℕ) → List ℕ → Slice
-slice_of c trace commands blocks =
+abbrev pub slice_of : TraceOptions → ConfigNumbers → List Seen → List (ℕ × ℕ) → List ℕ → Slice
+slice_of o c trace commands blocks =
     let names = slice_names c trace commands in
-    map (piece_of c trace blocks names) names
+    map (piece_of o c trace blocks names) names

@@ -1,7 +1,7 @@
 //! What a trace tells of the effects of each history that explains it. A command is named by its submission queue and
 //! its number there, from 0; its units by their numbers, from 0.
 
-ghost use Rattle.std.specs.Prelude.{◌++◌, ◌≡◌, ◌≤◌, ◌∷◌, List, None, Some, length, true, ℕ};
+ghost use Rattle.std.specs.Prelude.{◌++◌, ◌≡◌, ◌≤◌, ◌∷◌, List, None, Some, false, length, true, ℕ};
 ghost use Rattle.nvme_model.specs.Array.{zeros};
 ghost use Rattle.nvme_model.specs.Config.{is_accepted};
 ghost use Rattle.nvme_model.specs.History.{Past};
@@ -11,14 +11,14 @@ ghost use Rattle.nvme_model.specs.declared.config.ConfigNumbers.{ConfigNumbers};
 ghost use Rattle.nvme_model.specs.declared.entry.BlockLine.{BlockLine};
 ghost use Rattle.nvme_model.specs.declared.entry.Entry.{Entry};
 ghost use Rattle.trace.specs.Observed.{Explains};
-ghost use Rattle.trace.specs.Options.{no_options};
+ghost use Rattle.trace.specs.declared.options.TraceOptions.{TraceOptions};
 ghost use Rattle.trace.specs.declared.seen.Seen.{Seen};
 ghost use Rattle.refutation_laws.specs.Effects.{effect_by, is_effect_of};
 ghost use Rattle.refutation_laws.specs.Lines.{is_tidy};
+ghost use Rattle.refutation_laws.specs.Refuted.{lacks_order};
 ghost use Rattle.refutation_laws.specs.EffectOrders.{EffectName, comes_before};
 ghost use Rattle.refutation_laws.specs.Slices.{slice_of};
 ghost use Rattle.refutation_laws.specs.Told.{is_sure};
-ghost use Rattle.slice_orders.specs.Layers.{has_no_order};
 ghost use Rattle.slice_orders.specs.Orders.{IsOrder};
 
 /// A unit of a command has one effect, which stays where it is, and none before its entry is published; one that isn't
@@ -38,26 +38,26 @@ pub fn each_unit_has_one_effect()
 /// Each history that explains a trace has the effects that are sure, and keeps the order that the trace's lines tell:
 /// an effect whose command was answered before another's command was published stands before it, and so does that of an
 /// earlier unit of the same command, and one that was there when a completion was posted whose SQHD says that the
-/// other's command wasn't fetched.
+/// other's command wasn't fetched. Options may leave out fields of completions, SQHD too.
 pub fn effects_keep_the_order_of_lines()
-    ensures sure { (c : ConfigNumbers) (past : Past) (trace : List Seen) (q j u : ℕ) →
-        Explains no_options c past trace → is_tidy trace ≡ true → is_sure c trace q j u ≡ true →
-        (before : Past) × (effect_by past q j u ≡ Some before) }
-    ensures order { (c : ConfigNumbers) (past : Past) (trace : List Seen) (a b : EffectName) (before : Past) →
-        is_accepted c ≡ true → Explains no_options c past trace → is_tidy trace ≡ true →
-        comes_before c trace a b ≡ true →
+    ensures sure { (o : TraceOptions) (c : ConfigNumbers) (past : Past) (trace : List Seen) (q j u : ℕ) →
+        o.contents_unknown ≡ false → o.statuses_any ≡ false → Explains o c past trace → is_tidy trace ≡ true →
+        is_sure c trace q j u ≡ true → (before : Past) × (effect_by past q j u ≡ Some before) }
+    ensures order { (o : TraceOptions) (c : ConfigNumbers) (past : Past) (trace : List Seen) (a b : EffectName)
+        (before : Past) → o.contents_unknown ≡ false → o.statuses_any ≡ false → is_accepted c ≡ true →
+        Explains o c past trace → is_tidy trace ≡ true → comes_before o c trace a b ≡ true →
         effect_by past b.queue b.number b.unit ≡ Some before →
         (first : Past) × (effect_by before a.queue a.number a.unit ≡ Some first) }
 {}
 
 /// Each history that explains a trace gives an order of each slice of it: the order of its effects. So no history
-/// explains a trace of which a slice has no order.
+/// explains a trace of which a slice has no order, whatever lines follow.
 pub fn each_history_gives_an_order()
-    ensures order { (c : ConfigNumbers) (past : Past) (trace : List Seen) (commands : List (ℕ × ℕ)) (blocks : List ℕ) →
-        is_accepted c ≡ true → Explains no_options c past trace → is_tidy trace ≡ true →
-        (order : List ℕ) × IsOrder zeros (slice_of c trace commands blocks) order }
-    ensures refuted { (c : ConfigNumbers) (past : Past) (trace : List Seen) (commands : List (ℕ × ℕ))
-        (blocks : List ℕ) → is_accepted c ≡ true → is_tidy trace ≡ true →
-        has_no_order zeros (slice_of c trace commands blocks) ≡ true →
-        Explains no_options c past trace → ⊥ }
+    ensures order { (o : TraceOptions) (c : ConfigNumbers) (past : Past) (more trace : List Seen)
+        (commands : List (ℕ × ℕ)) (blocks : List ℕ) → o.contents_unknown ≡ false → o.statuses_any ≡ false →
+        is_accepted c ≡ true → Explains o c past (more ++ trace) → is_tidy trace ≡ true →
+        (order : List ℕ) × IsOrder zeros (slice_of o c trace commands blocks) order }
+    ensures refuted { (o : TraceOptions) (c : ConfigNumbers) (past : Past) (more trace : List Seen)
+        (commands : List (ℕ × ℕ)) (blocks : List ℕ) → o.contents_unknown ≡ false → is_accepted c ≡ true →
+        lacks_order o c trace commands blocks ≡ true → Explains o c past (more ++ trace) → ⊥ }
 {}
