@@ -38,3 +38,4 @@ pub mod EarlySeconds
 pub mod QueueBooks
 pub mod BookAnswers
 pub mod ReadSlices
+pub mod ReadCommands

@@ -47,19 +47,19 @@ reads_all o c past trace known x =
     (ap (λ (n : Option ℕ). own n (observed c past)) none ∙ own_all (observed c past)) x.1.1
 
 pub sure_as_read : (o : TraceOptions) (c : ConfigNumbers) (past : Past) (trace : List Seen) (q j u : ℕ)
-    → o.contents_unknown ≡ false → o.statuses_any ≡ false → Explains o c past trace → is_tidy trace ≡ true
-    → is_sure c trace q j u ≡ true → (before : Past) × (effect_by past q j u ≡ Some before)
-sure_as_read o c past trace q j u known exact x d e =
+    → o.contents_unknown ≡ false → Explains o c past trace → is_tidy trace ≡ true → is_sure c trace q j u ≡ true
+    → (before : Past) × (effect_by past q j u ≡ Some before)
+sure_as_read o c past trace q j u known x d e =
     let r = reads_all o c past trace known x in
     sure_effect c past q j u x.0 (same_tidy o (observed c past) trace r ∙ d)
-    (same_sure o c exact (observed c past) trace q j u r ∙ e)
+    (same_sure o c (observed c past) trace q j u r ∙ e)
 
 pub order_as_read : (o : TraceOptions) (c : ConfigNumbers) (past : Past) (trace : List Seen) (a b : EffectName)
-    (before : Past) → o.contents_unknown ≡ false → o.statuses_any ≡ false → is_accepted c ≡ true
+    (before : Past) → o.contents_unknown ≡ false → is_accepted c ≡ true
     → Explains o c past trace → is_tidy trace ≡ true → comes_before o c trace a b ≡ true
     → effect_by past b.queue b.number b.unit ≡ Some before
     → (first : Past) × (effect_by before a.queue a.number a.unit ≡ Some first)
-order_as_read o c past trace a b before known exact s x d e f =
+order_as_read o c past trace a b before known s x d e f =
     let r = reads_all o c past trace known x in
     comes_first o c past a b before (has_slots c s) x.0 (same_tidy o (observed c past) trace r ∙ d)
-    (same_order o c exact (observed c past) trace a b r ∙ e) f
+    (same_order o c (observed c past) trace a b r ∙ e) f

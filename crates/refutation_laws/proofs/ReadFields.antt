@@ -14,7 +14,7 @@ use Rattle.trace.specs.declared.options.TraceOptions.{TraceOptions}
 
 -- ---- a byte elsewhere
 
-field_below : (first count i v : ℕ) (bytes : List ℕ) → i < first
+pub field_below : (first count i v : ℕ) (bytes : List ℕ) → i < first
     → field first count (set bytes i v) ≡ field first count bytes
 field_below first count i v bytes l =
     ap (λ (xs : List ℕ). little_endian (take ((first + count) - first) xs)) (drop-set-lt first bytes i v l)
@@ -122,15 +122,15 @@ pair_word [] = refl
 pair_word (a ∷ []) = refl
 pair_word (a ∷ b ∷ xs) = let e : a + 256 * (b + 256 * 0) ≡ a + 256 * b = omega arith in e
 
-word_is : (bytes : List ℕ) → field 14 2 bytes ≡ low_status bytes + 256 * high_status bytes
+pub word_is : (bytes : List ℕ) → field 14 2 bytes ≡ low_status bytes + 256 * high_status bytes
 word_is bytes =
     pair_word (drop 14 bytes)
     ∙ ap₂ (λ (a b : ℕ). a + 256 * b) (get_or-drop 14 bytes 0 0) (get_or-drop 14 bytes 1 0)
 
 -- one word says the same phase and status as another
-record SameEnd (a b : List ℕ) : Type 0 where
-  phase : (cqe_fields a).phase ≡ (cqe_fields b).phase
-  status : cqe_status a ≡ cqe_status b
+pub record SameEnd (a b : List ℕ) : Type 0 where
+  pub phase : (cqe_fields a).phase ≡ (cqe_fields b).phase
+  pub status : cqe_status a ≡ cqe_status b
 
 same_end : (a b : List ℕ) → field 14 2 a ≡ field 14 2 b → SameEnd a b
 same_end a b e =
@@ -185,7 +185,7 @@ crd_less true bytes =
 crd_less false bytes = end_itself bytes
 
 -- what options leave of the end of a completion, whose status was replaced or not
-ends_read : (o : TraceOptions) (bytes : List ℕ)
+pub ends_read : (o : TraceOptions) (bytes : List ℕ)
     → SameEnd (read_completion o bytes) (with_one_status o.statuses_any bytes)
 ends_read o bytes =
     let i = o.ignored in

@@ -25,7 +25,7 @@ Reads o seen trace = Pointwise (ReadsAs o) seen trace
 
 -- ---- an entry
 
-refused_field : (first count : ℕ) (bytes : List ℕ) → first + count ≤ 4
+pub refused_field : (first count : ℕ) (bytes : List ℕ) → first + count ≤ 4
     → field first count (refused bytes) ≡ field first count bytes
 refused_field first count bytes l =
     at 7 (set (set (set bytes 4 0) 5 0) 6 0) (omega arith)

@@ -85,7 +85,7 @@ exact_entry o kept e t (p, inl h) =
     ap₂ (λ (x y : List ℕ). let s : Submission = record { entry = x; payload = y } in s) h p
 exact_entry o kept e t (p, inr h) = absurd (let f : true ≡ false = sym h.0 ∙ kept in cc)
 
-pub exact_entries : (o : TraceOptions) (seen trace : List Seen) (q : ℕ) → o.statuses_any ≡ false → Reads o seen trace
+exact_entries : (o : TraceOptions) (seen trace : List Seen) (q : ℕ) → o.statuses_any ≡ false → Reads o seen trace
     → published_in seen q ≡ published_in trace q
 exact_entries o seen trace q kept h =
     are_same (ReadsEntry o) (exact_entry o kept) (published_in seen q) (published_in trace q)

@@ -1,20 +1,17 @@
--- A trace tells the same order of effects and the same slices as what it reads, where its options compare statuses.
+-- A trace tells the same order of effects and the same slices as what it reads.
 use Rattle.std.proofs.Common.{◌≡◌, ℕ, suc, ◌+◌, ◌-◌, ◌%◌, Bool, true, false, not, ◌&&◌, ◌||◌, cond, List, [], ◌∷◌}
-use Rattle.std.proofs.Common.{Option, None, Some, bytes_eq, get_or, is_none, length, map, slice_get, nat_le, nat_lt}
+use Rattle.std.proofs.Common.{Option, None, Some, bytes_eq, is_none, length, map, slice_get, nat_le, nat_lt}
 use Rattle.std.proofs.Common.{refl}
 use Rattle.std.proofs.Common.{ap, ap₂, ◌∙◌, subst, subst₂, eqb}
 use Rattle.std.proofs.Math.Path.{fun_ext}
 use Rattle.std.specs.List.{filter, flat_map, list_all, list_any, range_with_len}
 use Rattle.nvme_model.specs.Config.{completion_queue}
-use Rattle.nvme_model.specs.EntryBytes.{cqe_fields, sqe_fields}
-use Rattle.nvme_model.specs.Operations.{compare_data, has_write, is_pair, op, units, write_data}
-use Rattle.nvme_model.specs.Statuses.{compare_failure, is_success, same_status}
-use Rattle.nvme_model.specs.Tickets.{Ticket}
+use Rattle.nvme_model.specs.EntryBytes.{cqe_fields}
+use Rattle.nvme_model.specs.Operations.{compare_data, has_write, is_pair, op, write_data}
 use Rattle.nvme_model.specs.Verdict.{is_in}
 use Rattle.nvme_model.specs.declared.array.Range.{Range}
 use Rattle.nvme_model.specs.declared.config.ConfigNumbers.{ConfigNumbers}
-use Rattle.nvme_model.specs.declared.status.Status.{Status}
-use Rattle.nvme_model.specs.declared.submission.Submission.{Submission}
+use Rattle.nvme_model.specs.declared.operation.Op.{Op}
 use Rattle.trace.specs.Options.{ReadsAs, ReadsReap}
 use Rattle.trace.specs.declared.options.TraceOptions.{TraceOptions}
 use Rattle.trace.specs.declared.seen.ReapedLine.{ReapedLine}
@@ -31,35 +28,31 @@ use Rattle.refutation_laws.specs.Slices.{effects_of_command, finds_of, found_blo
 use Rattle.refutation_laws.specs.Slices.{is_piece, looks, may_be_found, may_write, none_else, numbers_where, piece_of}
 use Rattle.refutation_laws.specs.Slices.{range_of, says_failed, slice_names, slice_of, surely_writes, ticket_of}
 use Rattle.refutation_laws.specs.Slices.{writes_of}
-use Rattle.refutation_laws.specs.Told.{is_sure, says_differs, says_done, told_ticket, told_units, told_verdict}
-use Rattle.refutation_laws.proofs.ReadFields.{sqhd_read, sqid_read, status_read}
+use Rattle.refutation_laws.specs.Told.{is_sure, says_differs, says_done, told_units}
+use Rattle.refutation_laws.proofs.ReadCommands.{found_alike, says_alike, told_alike}
+use Rattle.refutation_laws.proofs.ReadFields.{sqhd_read, sqid_read}
 use Rattle.refutation_laws.proofs.ReadLines.{AnswersRead, Reads, before_reads, same_answer, same_count, same_least}
 use Rattle.refutation_laws.proofs.ReadLines.{same_reaped}
-use Rattle.refutation_laws.proofs.ReadRules.{exact_entries}
 
 -- ---- what is read of answers
 
-same_done : (o : TraceOptions) (a b : Option ReapedLine) → o.statuses_any ≡ false → AnswersRead o a b
-    → says_done a ≡ says_done b
-same_done o None None e h = refl
-same_done o None (Some t) e h = absurd h
-same_done o (Some r) None e h = absurd h
-same_done o (Some r) (Some t) e h = ap is_success (status_read o r.cqe t.cqe e h.1)
+same_done : (o : TraceOptions) (a b : Option ReapedLine) → AnswersRead o a b → says_done a ≡ says_done b
+same_done o None None h = refl
+same_done o None (Some t) h = absurd h
+same_done o (Some r) None h = absurd h
+same_done o (Some r) (Some t) h = (says_alike o r.cqe t.cqe h.1).done
 
-same_differs : (o : TraceOptions) (a b : Option ReapedLine) → o.statuses_any ≡ false → AnswersRead o a b
-    → says_differs a ≡ says_differs b
-same_differs o None None e h = refl
-same_differs o None (Some t) e h = absurd h
-same_differs o (Some r) None e h = absurd h
-same_differs o (Some r) (Some t) e h =
-    ap (λ (s : Status). same_status s compare_failure) (status_read o r.cqe t.cqe e h.1)
+same_differs : (o : TraceOptions) (a b : Option ReapedLine) → AnswersRead o a b → says_differs a ≡ says_differs b
+same_differs o None None h = refl
+same_differs o None (Some t) h = absurd h
+same_differs o (Some r) None h = absurd h
+same_differs o (Some r) (Some t) h = (says_alike o r.cqe t.cqe h.1).differs
 
-same_failed : (o : TraceOptions) (a b : Option ReapedLine) → o.statuses_any ≡ false → AnswersRead o a b
-    → says_failed a ≡ says_failed b
-same_failed o None None e h = refl
-same_failed o None (Some t) e h = absurd h
-same_failed o (Some r) None e h = absurd h
-same_failed o (Some r) (Some t) e h = ap (λ (s : Status). not (is_success s)) (status_read o r.cqe t.cqe e h.1)
+same_failed : (o : TraceOptions) (a b : Option ReapedLine) → AnswersRead o a b → says_failed a ≡ says_failed b
+same_failed o None None h = refl
+same_failed o None (Some t) h = absurd h
+same_failed o (Some r) None h = absurd h
+same_failed o (Some r) (Some t) h = ap not (says_alike o r.cqe t.cqe h.1).done
 
 same_none : (o : TraceOptions) (a b : Option ReapedLine) → AnswersRead o a b → is_none a ≡ is_none b
 same_none o None None h = refl
@@ -75,39 +68,27 @@ same_data o (Some r) (Some t) h = h.2
 
 -- ---- commands
 
-module _ (o : TraceOptions) (c : ConfigNumbers) (exact : o.statuses_any ≡ false) where
-  same_ticket : (seen trace : List Seen) (q j : ℕ) → Reads o seen trace → told_ticket seen q j ≡ told_ticket trace q j
-  same_ticket seen trace q j h =
-      ap (λ (es : List Submission).
-      let none : Submission = record { entry = []; payload = [] } in
-      let first = get_or es j none in
-      let k : Ticket = record {
-        queue = q;
-        commands = first ∷ get_or es (suc j) none ∷ [];
-        verdict = told_verdict (sqe_fields first.entry).fuse;
-      } in
-      k) (exact_entries o seen trace q exact h)
-
+module _ (o : TraceOptions) (c : ConfigNumbers) where
   same_cut : (seen trace : List Seen) (q j : ℕ) → Reads o seen trace → told_units c seen q j ≡ told_units c trace q j
-  same_cut seen trace q j h = ap (units c) (same_ticket seen trace q j h)
+  same_cut seen trace q j h = (told_alike o seen trace q j h).units c
 
   pub same_sure : (seen trace : List Seen) (q j u : ℕ) → Reads o seen trace
       → is_sure c seen q j u ≡ is_sure c trace q j u
   same_sure seen trace q j u h =
       let a = same_answer o seen trace q j h in
       ap₂ (λ (n : ℕ) (d : Bool). nat_lt u n && (d || (says_differs (answer_in seen q j) && eqb n 1)))
-      (ap length (same_cut seen trace q j h)) (same_done o (answer_in seen q j) (answer_in trace q j) exact a)
+      (ap length (same_cut seen trace q j h)) (same_done o (answer_in seen q j) (answer_in trace q j) a)
       ∙ ap (λ (d : Bool). nat_lt u (length (told_units c trace q j))
       && (says_done (answer_in trace q j) || (d && eqb (length (told_units c trace q j)) 1)))
-      (same_differs o (answer_in seen q j) (answer_in trace q j) exact a)
+      (same_differs o (answer_in seen q j) (answer_in trace q j) a)
 
   -- ---- the order by lines
 
   same_ends : (seen trace : List Seen) (a b : EffectName) → Reads o seen trace
       → ends_before c seen a b ≡ ends_before c trace a b
   same_ends seen trace a b h =
-      ap (λ (k : Ticket). is_sure c (before_entry seen b.queue (cond (is_pair (op k)) (suc b.number) b.number)) a.queue
-      a.number a.unit) (same_ticket seen trace b.queue b.number h)
+      ap (λ (x : Option Op). is_sure c (before_entry seen b.queue (cond (is_pair x) (suc b.number) b.number)) a.queue
+      a.number a.unit) (told_alike o seen trace b.queue b.number h).op
       ∙ same_sure (before_entry seen b.queue (last_entry trace b.queue b.number))
       (before_entry trace b.queue (last_entry trace b.queue b.number)) a.queue a.number a.unit
       (before_reads o seen trace b.queue (last_entry trace b.queue b.number) h)
@@ -266,16 +247,20 @@ module _ (o : TraceOptions) (c : ConfigNumbers) (exact : o.statuses_any ≡ fals
   same_may_write : (seen trace : List Seen) (n : EffectName) (l : ℕ) → Reads o seen trace
       → may_write c seen n l ≡ may_write c trace n l
   same_may_write seen trace n l h =
-      ap₂ (λ (k : Ticket) (f : Bool). has_write (op k) && is_block_of (slice_get (units c k) n.unit) l && not f)
-      (same_ticket seen trace n.queue n.number h)
-      (same_failed o (answer_of seen n) (answer_of trace n) exact (same_answer o seen trace n.queue n.number h))
+      let k = told_alike o seen trace n.queue n.number h in
+      ap₂ (λ (x : Option Op) (us : List Range). has_write x && is_block_of (slice_get us n.unit) l
+      && not (says_failed (answer_of seen n))) k.op (k.units c)
+      ∙ ap (λ (f : Bool). has_write (op (ticket_of trace n)) && is_block_of (range_of c trace n) l && not f)
+      (same_failed o (answer_of seen n) (answer_of trace n) (same_answer o seen trace n.queue n.number h))
 
   same_surely : (seen trace : List Seen) (n : EffectName) (l : ℕ) → Reads o seen trace
       → surely_writes c seen n l ≡ surely_writes c trace n l
   same_surely seen trace n l h =
-      ap₂ (λ (k : Ticket) (f : Bool). has_write (op k) && is_block_of (slice_get (units c k) n.unit) l && f)
-      (same_ticket seen trace n.queue n.number h)
-      (same_done o (answer_of seen n) (answer_of trace n) exact (same_answer o seen trace n.queue n.number h))
+      let k = told_alike o seen trace n.queue n.number h in
+      ap₂ (λ (x : Option Op) (us : List Range). has_write x && is_block_of (slice_get us n.unit) l
+      && says_done (answer_of seen n)) k.op (k.units c)
+      ∙ ap (λ (f : Bool). has_write (op (ticket_of trace n)) && is_block_of (range_of c trace n) l && f)
+      (same_done o (answer_of seen n) (answer_of trace n) (same_answer o seen trace n.queue n.number h))
 
   same_of_command : (seen trace : List Seen) (q j : ℕ) → Reads o seen trace
       → effects_of_command c seen q j ≡ effects_of_command c trace q j
@@ -311,8 +296,8 @@ module _ (o : TraceOptions) (c : ConfigNumbers) (exact : o.statuses_any ≡ fals
   same_none_else seen trace names r l fits h =
       ap₂ (λ (p : EffectName → Bool) (ns : List EffectName). list_all p ns)
       (fun_ext (λ y.
-      ap₂ (λ (s : Bool) (k : Ticket). is_named names y || not (s && fits (write_data k l)))
-      (same_found_by seen trace l y r h) (same_ticket seen trace y.queue y.number h))) (same_effects seen trace h)
+      ap₂ (λ (s : Bool) (d : List ℕ). is_named names y || not (s && fits d)) (same_found_by seen trace l y r h)
+      ((told_alike o seen trace y.queue y.number h).written l))) (same_effects seen trace h)
 
   -- ---- pieces
 
@@ -323,64 +308,54 @@ module _ (o : TraceOptions) (c : ConfigNumbers) (exact : o.statuses_any ≡ fals
       → Reads o seen trace → finds_of o c seen blocks names n ≡ finds_of o c trace blocks names n
   same_finds seen trace blocks names n h =
       let a = same_answer o seen trace n.queue n.number h in
-      by (ticket_of seen n) (says_differs (answer_of seen n)) (says_differs (answer_of trace n))
-      (same_differs o (answer_of seen n) (answer_of trace n) exact a)
-      ∙ by_data (ticket_of seen n) (answer_data (answer_of seen n)) (answer_data (answer_of trace n))
+      let k = told_alike o seen trace n.queue n.number h in
+      let found : (l : ℕ) → found_block (op (ticket_of seen n)) (ticket_of seen n) (answer_data (answer_of seen n)) l
+      ≡ found_block (op (ticket_of trace n)) (ticket_of trace n) (answer_data (answer_of trace n)) l =
+      λ l. ap (λ (d : List ℕ). found_block (op (ticket_of seen n)) (ticket_of seen n) d l)
       (same_data o (answer_of seen n) (answer_of trace n) a)
-      ∙ by_range (ticket_of seen n) (range_of c seen n) (range_of c trace n) (same_ranges seen trace n h)
-      ∙ ap (λ (k : Ticket). finds k (says_differs (answer_of trace n)) (answer_data (answer_of trace n))
-      (range_of c trace n) (λ x. none_else o c seen names n x.0 (λ d. bytes_eq d x.1)))
-      (same_ticket seen trace n.queue n.number h)
-      ∙ ap (finds (ticket_of trace n) (says_differs (answer_of trace n)) (answer_data (answer_of trace n))
-      (range_of c trace n))
+      ∙ found_alike (ticket_of seen n) (ticket_of trace n) (answer_data (answer_of trace n)) l k in
+      ap₂ (λ (x : Option Op) (d : Bool). finds (looks x) d (range_of c seen n)
+      (found_block (op (ticket_of seen n)) (ticket_of seen n) (answer_data (answer_of seen n)))
+      (λ x. none_else o c seen names n x.0 (λ d. bytes_eq d x.1))) k.op
+      (same_differs o (answer_of seen n) (answer_of trace n) a)
+      ∙ ap₂ (λ (r : Option Range) (f : ℕ → List ℕ). finds (looks (op (ticket_of trace n)))
+      (says_differs (answer_of trace n)) r f (λ x. none_else o c seen names n x.0 (λ d. bytes_eq d x.1)))
+      (same_ranges seen trace n h) (fun_ext found)
+      ∙ ap (finds (looks (op (ticket_of trace n))) (says_differs (answer_of trace n)) (range_of c trace n)
+      (found_block (op (ticket_of trace n)) (ticket_of trace n) (answer_data (answer_of trace n))))
       (fun_ext (λ x. same_none_else seen trace names n x.0 (λ d. bytes_eq d x.1) h))
     where
-      finds : Ticket → Bool → List ℕ → Option Range → (Held → Bool) → List Held
-      finds k d dat r p =
-          cond (looks (op k) && not d)
-          (filter p (map (λ l. (l, found_block (op k) k dat l)) (filter (λ l. is_in l blocks) (blocks_of r)))) []
-
-      test : Held → Bool
-      test x = none_else o c seen names n x.0 (λ d. bytes_eq d x.1)
-
-      by : (k : Ticket) (d e : Bool) → d ≡ e
-          → finds k d (answer_data (answer_of seen n)) (range_of c seen n) test
-          ≡ finds k e (answer_data (answer_of seen n)) (range_of c seen n) test
-      by k d e f = ap (λ (z : Bool). finds k z (answer_data (answer_of seen n)) (range_of c seen n) test) f
-
-      by_data : (k : Ticket) (x y : List ℕ) → x ≡ y
-          → finds k (says_differs (answer_of trace n)) x (range_of c seen n) test
-          ≡ finds k (says_differs (answer_of trace n)) y (range_of c seen n) test
-      by_data k x y f = ap (λ (z : List ℕ). finds k (says_differs (answer_of trace n)) z (range_of c seen n) test) f
-
-      by_range : (k : Ticket) (x y : Option Range) → x ≡ y
-          → finds k (says_differs (answer_of trace n)) (answer_data (answer_of trace n)) x test
-          ≡ finds k (says_differs (answer_of trace n)) (answer_data (answer_of trace n)) y test
-      by_range k x y f = ap (λ (z : Option Range). finds k (says_differs (answer_of trace n))
-          (answer_data (answer_of trace n)) z test) f
+      finds : Bool → Bool → Option Range → (ℕ → List ℕ) → (Held → Bool) → List Held
+      finds x d r f p =
+          cond (x && not d) (filter p (map (λ l. (l, f l)) (filter (λ l. is_in l blocks) (blocks_of r)))) []
 
   same_differing : (seen trace : List Seen) (blocks : List ℕ) (names : List EffectName) (n : EffectName)
       → Reads o seen trace → differs_of o c seen blocks names n ≡ differs_of o c trace blocks names n
   same_differing seen trace blocks names n h =
-      ap₂ (λ (k : Ticket) (d : Bool). differing k d (blocks_of (slice_get (units c k) n.unit))
-      (λ l. none_else o c seen names n l (λ x. not (bytes_eq x (compare_data k l)))))
-      (same_ticket seen trace n.queue n.number h)
-      (same_differs o (answer_of seen n) (answer_of trace n) exact (same_answer o seen trace n.queue n.number h))
-      ∙ ap (differing (ticket_of trace n) (says_differs (answer_of trace n)) (blocks_of (range_of c trace n)))
-      (fun_ext (λ l.
-      same_none_else seen trace names n l (λ x. not (bytes_eq x (compare_data (ticket_of trace n) l))) h))
+      let k = told_alike o seen trace n.queue n.number h in
+      ap₂ (λ (d : Bool) (r : Option Range). differing d (blocks_of r) (compare_data (ticket_of seen n))
+      (λ l x. none_else o c seen names n l (λ y. not (bytes_eq y x))))
+      (same_differs o (answer_of seen n) (answer_of trace n) (same_answer o seen trace n.queue n.number h))
+      (same_ranges seen trace n h)
+      ∙ ap₂ (differing (says_differs (answer_of trace n)) (blocks_of (range_of c trace n))) (fun_ext k.compared)
+      (fun_ext (λ l. fun_ext (λ x. same_none_else seen trace names n l (λ y. not (bytes_eq y x)) h)))
     where
-      differing : Ticket → Bool → List ℕ → (ℕ → Bool) → List (List Held)
-      differing k d ls p =
-          cond (d && list_all (λ l. is_in l blocks && p l) ls) (map (λ l. (l, compare_data k l)) ls ∷ []) []
+      differing : Bool → List ℕ → (ℕ → List ℕ) → (ℕ → List ℕ → Bool) → List (List Held)
+      differing d ls f p =
+          cond (d && list_all (λ l. is_in l blocks && p l (f l)) ls) (map (λ l. (l, f l)) ls ∷ []) []
 
   same_writing : (seen trace : List Seen) (blocks : List ℕ) (n : EffectName) → Reads o seen trace
       → writes_of c seen blocks n ≡ writes_of c trace blocks n
   same_writing seen trace blocks n h =
-      ap₂ (λ (k : Ticket) (d : Bool). cond (has_write (op k) && not d)
-      (map (λ l. (l, write_data k l)) (filter (λ l. is_in l blocks) (blocks_of (slice_get (units c k) n.unit)))) [])
-      (same_ticket seen trace n.queue n.number h)
-      (same_differs o (answer_of seen n) (answer_of trace n) exact (same_answer o seen trace n.queue n.number h))
+      let k = told_alike o seen trace n.queue n.number h in
+      ap₂ (λ (x : Option Op) (d : Bool). writing x d (range_of c seen n) (write_data (ticket_of seen n))) k.op
+      (same_differs o (answer_of seen n) (answer_of trace n) (same_answer o seen trace n.queue n.number h))
+      ∙ ap₂ (writing (op (ticket_of trace n)) (says_differs (answer_of trace n))) (same_ranges seen trace n h)
+      (fun_ext k.written)
+    where
+      writing : Option Op → Bool → Option Range → (ℕ → List ℕ) → List Held
+      writing x d r f =
+          cond (has_write x && not d) (map (λ l. (l, f l)) (filter (λ l. is_in l blocks) (blocks_of r))) []
 
   same_piece : (seen trace : List Seen) (blocks : List ℕ) (names : List EffectName) (n : EffectName)
       → Reads o seen trace → piece_of o c seen blocks names n ≡ piece_of o c trace blocks names n
@@ -404,8 +379,8 @@ module _ (o : TraceOptions) (c : ConfigNumbers) (exact : o.statuses_any ≡ fals
       ap₂ (λ (s a : Bool). s || (a && has_write (op (ticket_of seen n))))
       (same_sure seen trace n.queue n.number n.unit h)
       (same_none o (answer_of seen n) (answer_of trace n) (same_answer o seen trace n.queue n.number h))
-      ∙ ap (λ (k : Ticket). is_sure c trace n.queue n.number n.unit
-      || (is_none (answer_of trace n) && has_write (op k))) (same_ticket seen trace n.queue n.number h)
+      ∙ ap (λ (x : Option Op). is_sure c trace n.queue n.number n.unit || (is_none (answer_of trace n) && has_write x))
+      (told_alike o seen trace n.queue n.number h).op
 
   same_names : (seen trace : List Seen) (commands : List (ℕ × ℕ)) → Reads o seen trace
       → slice_names c seen commands ≡ slice_names c trace commands

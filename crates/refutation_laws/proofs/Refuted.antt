@@ -28,10 +28,8 @@ pub none_lacks : (o : TraceOptions) (c : ConfigNumbers) (past : Past) (more firs
     (commands : List (ℕ × ℕ)) (blocks : List ℕ) → o.contents_unknown ≡ false → is_accepted c ≡ true
     → lacks_order o c first commands blocks ≡ true → Explains o c past (more ++ first) → ⊥
 none_lacks o c past more first commands blocks known a h x =
-    let y = and_parts (not o.statuses_any
-    && is_tidy first) (has_no_order zeros (slice_of o c first commands blocks)) h in
-    let z = and_parts (not o.statuses_any) (is_tidy first) y.0 in
-    let r = order_as_read o c past more first commands blocks known (is_off o.statuses_any z.0) a x z.1 in
+    let y = and_parts (is_tidy first) (has_no_order zeros (slice_of o c first commands blocks)) h in
+    let r = order_as_read o c past more first commands blocks known a x y.0 in
     no_order zeros (slice_of o c first commands blocks) r.0 y.1 r.1
 
 pub none_refuted : (o : TraceOptions) (c : ConfigNumbers) (past : Past) (trace : List Seen) (lines : ℕ)

@@ -603,15 +603,15 @@ an_order options c whole commands blocks s h d =
 
 -- also of the slice of a trace that is read of it
 pub order_as_read : (o : TraceOptions) (c : ConfigNumbers) (past : Past) (more trace : List Seen)
-    (commands : List (ℕ × ℕ)) (blocks : List ℕ) → o.contents_unknown ≡ false → o.statuses_any ≡ false
-    → is_accepted c ≡ true → Explains o c past (more ++ trace) → is_tidy trace ≡ true
+    (commands : List (ℕ × ℕ)) (blocks : List ℕ) → o.contents_unknown ≡ false → is_accepted c ≡ true
+    → Explains o c past (more ++ trace) → is_tidy trace ≡ true
     → (order : List ℕ) × IsOrder zeros (slice_of o c trace commands blocks) order
-order_as_read o c past more trace commands blocks known exact a x d =
+order_as_read o c past more trace commands blocks known a x d =
     let b = reads_first o c past more trace known x in
     let tidy = same_tidy o (observed c b.start) trace b.reads ∙ d in (
       made c (observed c b.start) (slice_names c (observed c b.start) commands) b.start,
       subst (λ (slice : Slice). IsOrder zeros slice
           (made c (observed c b.start) (slice_names c (observed c b.start) commands) b.start))
-          (same_slice o c exact (observed c b.start) trace commands blocks b.reads)
+          (same_slice o c (observed c b.start) trace commands blocks b.reads)
           (an_order o c b.start commands blocks (has_slots c a) b.legal tidy),
     )

@@ -14,11 +14,10 @@ abbrev pub first_lines : ℕ → List Seen → List Seen
 first_lines n trace = drop (length trace - n) trace
 
 -- The effects of these commands, each a submission queue and a number there, had no order in which each found on these
--- blocks what it found. Who answers whom is asked of traces that publish no CID again while it waits, and what was done
--- where statuses are compared.
+-- blocks what it found. Who answers whom is asked of traces that publish no CID again while it waits.
 abbrev pub lacks_order : TraceOptions → ConfigNumbers → List Seen → List (ℕ × ℕ) → List ℕ → Bool
 lacks_order o c trace commands blocks =
-    not o.statuses_any && is_tidy trace && has_no_order zeros (slice_of o c trace commands blocks)
+    is_tidy trace && has_no_order zeros (slice_of o c trace commands blocks)
 
 -- The first so many lines of a trace are refuted, as options read it that know what all blocks held at the beginning:
 -- the last of them is bad, or the slice of these commands that looks at these blocks lacks an order.

@@ -37,14 +37,14 @@ pub fn each_unit_has_one_effect()
 
 /// Each history that explains a trace has the effects that are sure, and keeps the order that the trace's lines tell:
 /// an effect whose command was answered before another's command was published stands before it, and so does that of an
-/// earlier unit of the same command, and one that was there when a completion was posted whose SQHD says that the
-/// other's command wasn't fetched. Options may leave out fields of completions, SQHD too.
+/// earlier unit of the same command, and, where SQHD isn't ignored, one that was there when a completion was posted whose
+/// SQHD says that the other's command wasn't fetched.
 pub fn effects_keep_the_order_of_lines()
     ensures sure { (o : TraceOptions) (c : ConfigNumbers) (past : Past) (trace : List Seen) (q j u : ℕ) →
-        o.contents_unknown ≡ false → o.statuses_any ≡ false → Explains o c past trace → is_tidy trace ≡ true →
+        o.contents_unknown ≡ false → Explains o c past trace → is_tidy trace ≡ true →
         is_sure c trace q j u ≡ true → (before : Past) × (effect_by past q j u ≡ Some before) }
     ensures order { (o : TraceOptions) (c : ConfigNumbers) (past : Past) (trace : List Seen) (a b : EffectName)
-        (before : Past) → o.contents_unknown ≡ false → o.statuses_any ≡ false → is_accepted c ≡ true →
+        (before : Past) → o.contents_unknown ≡ false → is_accepted c ≡ true →
         Explains o c past trace → is_tidy trace ≡ true → comes_before o c trace a b ≡ true →
         effect_by past b.queue b.number b.unit ≡ Some before →
         (first : Past) × (effect_by before a.queue a.number a.unit ≡ Some first) }
@@ -54,7 +54,7 @@ pub fn effects_keep_the_order_of_lines()
 /// explains a trace of which a slice has no order, whatever lines follow.
 pub fn each_history_gives_an_order()
     ensures order { (o : TraceOptions) (c : ConfigNumbers) (past : Past) (more trace : List Seen)
-        (commands : List (ℕ × ℕ)) (blocks : List ℕ) → o.contents_unknown ≡ false → o.statuses_any ≡ false →
+        (commands : List (ℕ × ℕ)) (blocks : List ℕ) → o.contents_unknown ≡ false →
         is_accepted c ≡ true → Explains o c past (more ++ trace) → is_tidy trace ≡ true →
         (order : List ℕ) × IsOrder zeros (slice_of o c trace commands blocks) order }
     ensures refuted { (o : TraceOptions) (c : ConfigNumbers) (past : Past) (more trace : List Seen)
