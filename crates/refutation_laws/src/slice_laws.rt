@@ -37,7 +37,7 @@ pub fn each_unit_has_one_effect()
 
 /// Each history that explains a trace has the effects that are sure, and keeps the order that the trace's lines tell:
 /// an effect whose command was answered before another's command was published stands before it, and so does that of an
-/// earlier unit of the same command, and, where SQHD isn't ignored, one that was there when a completion was posted whose
+/// earlier unit of the same command, and, where SQHD is asked, one that was there when a completion was posted whose
 /// SQHD says that the other's command wasn't fetched.
 pub fn effects_keep_the_order_of_lines()
     ensures sure { (o : TraceOptions) (c : ConfigNumbers) (past : Past) (trace : List Seen) (q j u : ℕ) →
