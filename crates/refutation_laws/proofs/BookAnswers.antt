@@ -16,6 +16,7 @@ use Rattle.nvme_model.specs.declared.submission.Submission.{Submission}
 use Rattle.host_laws.specs.Book.{Book, cid_of, with_entry}
 use Rattle.host_laws.specs.Calls.{cqe_status}
 use Rattle.host_laws.proofs.Elements.{get_after, get_append}
+use Rattle.trace.specs.declared.options.TraceOptions.{TraceOptions}
 use Rattle.trace.specs.declared.seen.ReapedLine.{ReapedLine}
 use Rattle.trace.specs.declared.seen.Seen.{Seen}
 use Rattle.refutation_laws.specs.LineRules.{breaks_entry_rules, has_wrong_head}
@@ -32,6 +33,8 @@ use Rattle.refutation_laws.specs.QueueBooks.{entry_wrong_by, first_by, head_wron
 use Rattle.refutation_laws.specs.QueueBooks.{number_of, second_by, second_wrong_by, with_answer}
 use Rattle.refutation_laws.specs.QueueBooks.{with_published}
 use Rattle.refutation_laws.specs.QueueBooks.{with_reaped}
+use Rattle.refutation_laws.specs.QueueBooks.{is_bad_read_by, read_wrong_by}
+use Rattle.refutation_laws.specs.ReadRules.{breaks_read_rules, is_bad_read_line, sets_read_bits}
 use Rattle.refutation_laws.proofs.QueueBooks.{answered_is, entries_are, get_replicated, has_entry, least_is, parts_are}
 use Rattle.refutation_laws.proofs.QueueBooks.{same_places, together_is, waits_are, waits_below}
 
@@ -211,26 +214,43 @@ second_is c trace q (suc i) s =
         ap (λ (o : Option ReapedLine). is_apart_from o s || (is_none o && not (same_status s missing_fused)))
         (answer_is c trace q i (has_entry 1 (published_in trace q) i e))
 
--- the rules that ask for an entry, together
-sorted_rules : (h st a n d : Bool) → (h || ((st || d) || (a || n))) ≡ (false || h || st || a || n || d)
-sorted_rules true st a n d = refl
-sorted_rules false true a n d = refl
-sorted_rules false false a n true = sym (last a n)
+-- the rules about an answer, together
+sorted_answer : (st a n d : Bool) → ((st || d) || (a || n)) ≡ (st || a || n || d)
+sorted_answer true a n d = refl
+sorted_answer false a n true = sym (last a n)
   where
     last : (a n : Bool) → (a || n || true) ≡ true
     last true n = refl
     last false true = refl
     last false false = refl
-sorted_rules false false a n false = sym (last a n)
+sorted_answer false a n false = sym (last a n)
   where
     last : (a n : Bool) → (a || n || false) ≡ (a || n)
     last true n = refl
     last false true = refl
     last false false = refl
 
-none_rules : (h st a n d : Bool) → (h || true) ≡ (true || h || st || a || n || d)
-none_rules true st a n d = refl
-none_rules false st a n d = refl
+-- the rules about the answer to entry j
+answer_wrong_is : (c : ConfigNumbers) (trace : List Seen) (q j : ℕ) (s : Status) (n : ℕ)
+    → answer_wrong_by c (book_of c trace q) (Some j) s n
+    ≡ (number_may_not c trace q (Some j) s || is_second_apart trace q (Some j) s || is_second_early trace q (Some j) s
+    || number_owes_other trace q (Some j) s n)
+answer_wrong_is c trace q j s n =
+    ap₂ (λ (x y : Bool). x || y)
+    (ap (λ (es : List Submission). entry_wrong_by c b j (slice_get es j) s n) (entries_are c trace q)
+    ∙ entry_is (slice_get (published_in trace q) j) refl) (second_is c trace q j s)
+    ∙ sorted_answer (number_may_not c trace q (Some j) s) (is_second_apart trace q (Some j) s)
+    (is_second_early trace q (Some j) s) (number_owes_other trace q (Some j) s n)
+  where
+    b : QueueBook
+    b = book_of c trace q
+
+    entry_is : (o : Option Submission) → slice_get (published_in trace q) j ≡ o
+        → entry_wrong_by c b j o s n ≡ (may_not_answer c trace q j o s || owes_other_data o s n)
+    entry_is None e = refl
+    entry_is (Some entry) e =
+        ap (λ (x : Bool). not x || owes_other_data (Some entry) s n)
+        (may_is c trace q j entry s (slice_get_within (published_in trace q) j entry e))
 
 head_is : (c : ConfigNumbers) (trace : List Seen) (r : ReapedLine)
     → head_wrong_by c (book_of c trace (cqe_fields r.cqe).sqid) r ≡ has_wrong_head c trace r
@@ -243,6 +263,15 @@ head_is c trace r =
     ap₂ (λ (es : List Submission) (n : ℕ). not (nat_lt (cqe_fields r.cqe).sqhd c.sq_size) || nat_lt (length es) n)
     (entries_are c trace q) least
 
+-- the head first or behind the number
+head_first : (h st a n d : Bool) → (h || (st || a || n || d)) ≡ (false || h || st || a || n || d)
+head_first true st a n d = refl
+head_first false st a n d = refl
+
+none_rules : (h : Bool) → (h || true) ≡ true
+none_rules true = refl
+none_rules false = refl
+
 rules_are : (c : ConfigNumbers) (trace : List Seen) (r : ReapedLine)
     → (head_wrong_by c (book_of c trace (cqe_fields r.cqe).sqid) r
     || answer_wrong_by c (book_of c trace (cqe_fields r.cqe).sqid)
@@ -251,7 +280,7 @@ rules_are : (c : ConfigNumbers) (trace : List Seen) (r : ReapedLine)
 rules_are c trace r =
     ap₂ (λ (x : Bool) (n : Option ℕ). x || answer_wrong_by c b n st (length r.payload)) (head_is c trace r)
     (answered_is c trace r)
-    ∙ go (answered trace r.cqe) refl
+    ∙ go (answered trace r.cqe)
   where
     q : ℕ
     q = (cqe_fields r.cqe).sqid
@@ -262,27 +291,42 @@ rules_are c trace r =
     st : Status
     st = cqe_status r.cqe
 
-    entry_is : (j : ℕ) (o : Option Submission) → slice_get (published_in trace q) j ≡ o
-        → entry_wrong_by c b j o st (length r.payload)
-        ≡ (may_not_answer c trace q j o st || owes_other_data o st (length r.payload))
-    entry_is j None e = refl
-    entry_is j (Some entry) e =
-        ap (λ (x : Bool). not x || owes_other_data (Some entry) st (length r.payload))
-        (may_is c trace q j entry st (slice_get_within (published_in trace q) j entry e))
-
-    go : (n : Option ℕ) → answered trace r.cqe ≡ n
-        → (has_wrong_head c trace r || answer_wrong_by c b n st (length r.payload))
+    go : (n : Option ℕ) → (has_wrong_head c trace r || answer_wrong_by c b n st (length r.payload))
         ≡ (is_none n || has_wrong_head c trace r || number_may_not c trace q n st || is_second_apart trace q n st
         || is_second_early trace q n st || number_owes_other trace q n st (length r.payload))
-    go None e = none_rules (has_wrong_head c trace r) false false false false
-    go (Some j) e =
-        ap₂ (λ (x y : Bool). has_wrong_head c trace r || (x || y))
-        (ap (λ (es : List Submission). entry_wrong_by c b j (slice_get es j) st (length r.payload))
-        (entries_are c trace q)
-        ∙ entry_is j (slice_get (published_in trace q) j) refl) (second_is c trace q j st)
-        ∙ sorted_rules (has_wrong_head c trace r) (number_may_not c trace q (Some j) st)
+    go None = none_rules (has_wrong_head c trace r)
+    go (Some j) =
+        ap (λ (x : Bool). has_wrong_head c trace r || x) (answer_wrong_is c trace q j st (length r.payload))
+        ∙ head_first (has_wrong_head c trace r) (number_may_not c trace q (Some j) st)
         (is_second_apart trace q (Some j) st) (is_second_early trace q (Some j) st)
         (number_owes_other trace q (Some j) st (length r.payload))
+
+-- the same as options read a trace
+read_rules_are : (o : TraceOptions) (c : ConfigNumbers) (trace : List Seen) (r : ReapedLine)
+    → read_wrong_by o c (book_of c trace (cqe_fields r.cqe).sqid) r ≡ breaks_read_rules o c trace r
+read_rules_are o c trace r =
+    ap₂ (λ (n : Option ℕ) (x : Bool). is_none n || (not o.ignored.sqhd && x)
+    || (not o.statuses_any && answer_wrong_by c b n st (length r.payload))) (answered_is c trace r) (head_is c trace r)
+    ∙ go (answered trace r.cqe)
+  where
+    q : ℕ
+    q = (cqe_fields r.cqe).sqid
+
+    b : QueueBook
+    b = book_of c trace q
+
+    st : Status
+    st = cqe_status r.cqe
+
+    go : (n : Option ℕ) → (is_none n || (not o.ignored.sqhd && has_wrong_head c trace r)
+        || (not o.statuses_any && answer_wrong_by c b n st (length r.payload)))
+        ≡ (is_none n || (not o.ignored.sqhd && has_wrong_head c trace r)
+        || (not o.statuses_any && (number_may_not c trace q n st || is_second_apart trace q n st
+        || is_second_early trace q n st || number_owes_other trace q n st (length r.payload))))
+    go None = refl
+    go (Some j) =
+        ap (λ (x : Bool). (not o.ignored.sqhd && has_wrong_head c trace r) || (not o.statuses_any && x))
+        (answer_wrong_is c trace q j st (length r.payload))
 
 pub bad_is : (c : ConfigNumbers) (trace : List Seen) (r : ReapedLine)
     → is_bad_by c (book_of c trace (cqe_fields r.cqe).sqid) (reaped_in trace r.queue) (is_tidy trace) r
@@ -291,3 +335,11 @@ bad_is c trace r =
     ap (λ (x : Bool). sets_unused_bits r || not (eqb (cqe_fields r.cqe).phase (phase
     (reaped_in trace r.queue) c.cq_size))
     || names_wrong_queue c r || (is_tidy trace && x)) (rules_are c trace r)
+
+pub bad_read_is : (o : TraceOptions) (c : ConfigNumbers) (trace : List Seen) (r : ReapedLine)
+    → is_bad_read_by o c (book_of c trace (cqe_fields r.cqe).sqid) (reaped_in trace r.queue) (is_tidy trace) r
+    ≡ is_bad_read_line o c (Seen.Reaped r ∷ trace)
+bad_read_is o c trace r =
+    ap (λ (x : Bool). sets_read_bits o r || not (eqb (cqe_fields r.cqe).phase (phase
+    (reaped_in trace r.queue) c.cq_size))
+    || names_wrong_queue c r || (is_tidy trace && x)) (read_rules_are o c trace r)

@@ -9,11 +9,13 @@ use Rattle.nvme_model.specs.declared.status.Status.{Status}
 use Rattle.nvme_model.specs.declared.submission.Submission.{Submission}
 use Rattle.host_laws.specs.Book.{cid_of}
 use Rattle.host_laws.specs.Calls.{cqe_status}
+use Rattle.trace.specs.declared.options.TraceOptions.{TraceOptions}
 use Rattle.trace.specs.declared.seen.ReapedLine.{ReapedLine}
 use Rattle.trace.specs.declared.seen.Seen.{Seen}
 use Rattle.refutation_laws.specs.LineRules.{count_to, is_apart_from, names_wrong_queue, next_at, owes_other_data}
 use Rattle.refutation_laws.specs.LineRules.{sets_unused_bits}
 use Rattle.refutation_laws.specs.MayAnswer.{answers_first, has_fuse, may_answer_behind, verdict_at}
+use Rattle.refutation_laws.specs.ReadRules.{sets_read_bits}
 
 -- What is kept of a submission queue: its entries in order; of each how many came before its line, and the line that
 -- answers it, where one does; the CIDs that wait, each with its entry's number, the newest first; and how many entries
@@ -178,3 +180,16 @@ is_bad_by c b reaped tidy r =
     sets_unused_bits r || not ((cqe_fields r.cqe).phase == phase reaped c.cq_size) || names_wrong_queue c r
     || (tidy && (head_wrong_by c b r
     || answer_wrong_by c b (answered_by b r) (cqe_status r.cqe) (length r.payload)))
+
+-- It breaks one of the rules that ask which entry it answers, as options read a trace: SQHD is asked where it isn't
+-- ignored, the status and the data where not any status will do.
+abbrev pub read_wrong_by : TraceOptions → ConfigNumbers → QueueBook → ReapedLine → Bool
+read_wrong_by o c b r =
+    is_none (answered_by b r) || (not o.ignored.sqhd && head_wrong_by c b r)
+    || (not o.statuses_any && answer_wrong_by c b (answered_by b r) (cqe_status r.cqe) (length r.payload))
+
+-- A completion is bad behind these lines, as options read them, by the same.
+abbrev pub is_bad_read_by : TraceOptions → ConfigNumbers → QueueBook → ℕ → Bool → ReapedLine → Bool
+is_bad_read_by o c b reaped tidy r =
+    sets_read_bits o r || not ((cqe_fields r.cqe).phase == phase reaped c.cq_size) || names_wrong_queue c r
+    || (tidy && read_wrong_by o c b r)

@@ -4,11 +4,13 @@ ghost use Rattle.std.specs.Prelude.{◌≡◌, ◌&&◌, ◌<◌, ◌∷◌, Lis
 ghost use Rattle.nvme_model.specs.EntryBytes.{cqe_fields};
 ghost use Rattle.nvme_model.specs.declared.config.ConfigNumbers.{ConfigNumbers};
 ghost use Rattle.nvme_model.specs.declared.entry.PublishLine.{PublishLine};
+ghost use Rattle.trace.specs.declared.options.TraceOptions.{TraceOptions};
 ghost use Rattle.trace.specs.declared.seen.ReapedLine.{ReapedLine};
 ghost use Rattle.trace.specs.declared.seen.Seen.{Seen};
 ghost use Rattle.refutation_laws.specs.LineRules.{is_bad_line, least_fetched};
 ghost use Rattle.refutation_laws.specs.Lines.{answer_in, before_entry, is_tidy, published_in, reaped_in, waiting_in};
-ghost use Rattle.refutation_laws.specs.QueueBooks.{are_free, book_of, is_bad_by, number_of};
+ghost use Rattle.refutation_laws.specs.QueueBooks.{are_free, book_of, is_bad_by, is_bad_read_by, number_of};
+ghost use Rattle.refutation_laws.specs.ReadRules.{is_bad_read_line};
 
 /// What is kept of a submission queue is what the trace tells: its entries, where each one's line begins, which line
 /// answers it, who waits, and how many were fetched at least.
@@ -25,7 +27,8 @@ pub fn a_book_is_what_a_trace_tells()
         (book_of c trace q).least ≡ least_fetched c trace q }
 {}
 
-/// So it says whether the next Publish leaves a trace tidy, and whether the next completion is bad.
+/// So it says whether the next Publish leaves a trace tidy, and whether the next completion is bad, also as
+/// options read the trace.
 pub fn a_book_judges_the_next_line()
     ensures tidy { (c : ConfigNumbers) (trace : List Seen) (p : PublishLine) →
         is_tidy (Seen.Published p ∷ trace)
@@ -34,4 +37,7 @@ pub fn a_book_judges_the_next_line()
     ensures bad { (c : ConfigNumbers) (trace : List Seen) (r : ReapedLine) →
         is_bad_by c (book_of c trace (cqe_fields r.cqe).sqid) (reaped_in trace r.queue) (is_tidy trace) r
         ≡ is_bad_line c (Seen.Reaped r ∷ trace) }
+    ensures read { (o : TraceOptions) (c : ConfigNumbers) (trace : List Seen) (r : ReapedLine) →
+        is_bad_read_by o c (book_of c trace (cqe_fields r.cqe).sqid) (reaped_in trace r.queue) (is_tidy trace) r
+        ≡ is_bad_read_line o c (Seen.Reaped r ∷ trace) }
 {}
