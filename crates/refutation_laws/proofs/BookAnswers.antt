@@ -44,7 +44,7 @@ no_line = None
 -- ---- the lines that answer
 
 -- an entry that isn't published isn't answered
-unanswered : (trace : List Seen) (q j : ℕ) → length (published_in trace q) ≤ j → answer_in trace q j ≡ None
+pub unanswered : (trace : List Seen) (q j : ℕ) → length (published_in trace q) ≤ j → answer_in trace q j ≡ None
 unanswered [] q j l = refl
 unanswered (Seen.Published p ∷ trace) q j l =
     unanswered trace q j (omega (arith, l, length-append (published_in trace q) (cond (eqb p.queue q) p.batch [])))

@@ -39,3 +39,6 @@ pub mod QueueBooks
 pub mod BookAnswers
 pub mod ReadSlices
 pub mod ReadCommands
+pub mod Waiting
+pub mod Places
+pub mod Writers

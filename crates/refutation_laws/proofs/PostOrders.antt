@@ -152,7 +152,7 @@ reaped_grows (Seen.Published p ∷ more) trace n = reaped_grows more trace n
 reaped_grows (Seen.Reaped r ∷ more) trace n = omega (arith, reaped_grows more trace n)
 
 -- what stands there is a beginning
-entries_end : (trace : List Seen) (q n : ℕ) → (m : List Seen) × (trace ≡ m ++ through_entries trace q n)
+pub entries_end : (trace : List Seen) (q n : ℕ) → (m : List Seen) × (trace ≡ m ++ through_entries trace q n)
 entries_end [] q n = ([], refl)
 entries_end (s ∷ trace) q n = go (nat_le n (length (published_in trace q))) (entries_end trace q n)
   where
@@ -161,7 +161,7 @@ entries_end (s ∷ trace) q n = go (nat_le n (length (published_in trace q))) (e
     go true r = (s ∷ r.0, ap (λ (l : List Seen). s ∷ l) r.1)
     go false r = ([], refl)
 
-reaps_end : (trace : List Seen) (n i : ℕ) → (m : List Seen) × (trace ≡ m ++ through_reaps trace n i)
+pub reaps_end : (trace : List Seen) (n i : ℕ) → (m : List Seen) × (trace ≡ m ++ through_reaps trace n i)
 reaps_end [] n i = ([], refl)
 reaps_end (s ∷ trace) n i = go (nat_le i (reaped_in trace n)) (reaps_end trace n i)
   where

@@ -8,3 +8,5 @@ pub mod EffectOrders
 pub mod Slices
 pub mod Refuted
 pub mod QueueBooks
+pub mod Places
+pub mod Writers

@@ -3,5 +3,6 @@
 
 pub mod book_laws;
 pub mod line_laws;
+pub mod place_laws;
 pub mod refuted_laws;
 pub mod slice_laws;
