@@ -56,7 +56,7 @@ use Rattle.refutation_laws.specs.Told.{told_ticket, told_units, told_verdict}
 use Rattle.refutation_laws.proofs.Lines.{answer_post, published_seen}
 use Rattle.ticket_laws.proofs.Later.{tickets_later}
 use Rattle.refutation_laws.proofs.NamedEffects.{NumberedTicket, by_effect, effect_of}
-use Rattle.refutation_laws.proofs.ToldTickets.{IsAlike, same_units, told_effect}
+use Rattle.refutation_laws.proofs.ToldTickets.{IsAlike, one_inside, same_units, told_effect, unit_of_entry}
 
 -- ---- the entry that is answered
 
@@ -131,10 +131,10 @@ pub told_range : (c : ConfigNumbers) (past : Past) (q j u : ℕ) (before : Past)
     → IsLegal c past → effect past k.ticket u ≡ Some before
     → slice_get (told_units c (observed c past) q j) u ≡ Some r → unit_range past k.ticket u ≡ r
 told_range c past q j u before r k h e f =
-    same_some (unit_range past k.ticket u) r (slice_get (told_units c (observed c past) q j) u)
+    same_some (unit_range past k.ticket u) r (slice_get (units c (told_ticket (observed c past) q j)) u)
     (ap (λ (xs : List Range). slice_get xs u)
     (sym (same_units c (Tickets.ticket past k.ticket) (told_ticket (observed c past) q j) k.alike))
-    ∙ range_of_effect c past k.ticket u before h e) f
+    ∙ range_of_effect c past k.ticket u before h e) (unit_of_entry c (observed c past) q j u r f)
 
 -- ---- what the entry does
 
@@ -290,7 +290,7 @@ done_pair c past q j r h a y o one =
       k,
       record {
         effects = λ u x e.
-            let z = pair_unit c m u x o e in
+            let z = pair_unit c m u x o (unit_of_entry c (observed c past) q j u x e) in
             (yes.0, ap (effect past t) z ∙ yes.1);
         equal = λ u before e p.
             let z = pair_unit c (Tickets.ticket past t) u (unit_range past t u) d.pair
@@ -345,7 +345,7 @@ done_single c past q j r o h a y oe one two fields np =
       record {
         effects = λ u x e.
             let e2 : slice_get (units c (Tickets.ticket past t)) u ≡ Some x =
-            ap (λ (xs : List Range). slice_get xs u) us ∙ e in
+            ap (λ (xs : List Range). slice_get xs u) us ∙ unit_of_entry c (observed c past) q j u x e in
             some_effect (effect past t u)
             (numbered_all (λ i. is_some (effect past t i.0)) 0 u u x (units c (Tickets.ticket past t)) d.effects e2
             (omega arith));
@@ -414,7 +414,8 @@ differed_single c past q j r o h a y oe only one two fields np =
     } in
     let us = same_units c (Tickets.ticket past t) (told_ticket (observed c past) q j) k.alike in
     let no = no_before past t 0
-    (numbered_one (λ (u : ℕ). says_no past t u) (units c (Tickets.ticket past t)) (ap length us ∙ only) d.no) in (
+    (numbered_one (λ (u : ℕ). says_no past t u) (units c (Tickets.ticket past t))
+    (ap length us ∙ one_inside c (observed c past) q j only) d.no) in (
       k,
       record {
         before = no.0;

@@ -42,7 +42,7 @@ use Rattle.refutation_laws.proofs.Answered.{differed_command, done_command, kind
 use Rattle.refutation_laws.proofs.Answered.{told_range}
 use Rattle.refutation_laws.proofs.NamedEffects.{of_ticket}
 use Rattle.refutation_laws.proofs.ReadData.{read_block}
-use Rattle.refutation_laws.proofs.ToldTickets.{ToldEffect, same_equal, value_after}
+use Rattle.refutation_laws.proofs.ToldTickets.{ToldEffect, same_equal, unit_inside, value_after}
 
 -- ---- the blocks of a range
 
@@ -209,7 +209,8 @@ nothing_written c whole n past b r h v = go (answer_of (observed c whole) n) ref
     flipped false q = refl
 
     pair_one : op m ≡ Some Op.Pair → length (told_units c (observed c whole) n.queue n.number) ≡ 1
-    pair_one p = ap (λ (o : Option Op). length (Operations.units_by c.atomic o (slba (first_fields m))
+    pair_one p = ap length (unit_inside c (observed c whole) n.queue n.number n.unit r h.range)
+        ∙ ap (λ (o : Option Op). length (Operations.units_by c.atomic o (slba (first_fields m))
         (EntryBytes.block_count (first_fields m)))) p
 
     by_kind : (a : ReapedLine) → answer_of (observed c whole) n ≡ Some a

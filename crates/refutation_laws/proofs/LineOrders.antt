@@ -35,7 +35,7 @@ use Rattle.refutation_laws.proofs.Answered.{differed_command, done_command}
 use Rattle.refutation_laws.proofs.Lines.{published_seen, tidy_before}
 use Rattle.refutation_laws.proofs.NamedEffects.{EffectBy, behind, by_effect, by_later, effect_of, entries_of}
 use Rattle.refutation_laws.proofs.NamedEffects.{of_ticket}
-use Rattle.refutation_laws.proofs.ToldTickets.{pair_takes_two, some_op, told_effect}
+use Rattle.refutation_laws.proofs.ToldTickets.{pair_takes_two, some_op, told_effect, unit_of_entry}
 
 -- ---- a beginning of a trace is seen of a beginning of the history
 
@@ -104,7 +104,8 @@ sure_effect c past q j u h d e =
     let a = and_parts (nat_lt u n)
     (says_done (answer_in (observed c past) q j) || (says_differs (answer_in (observed c past) q j) && eqb n 1)) e in
     let x = some_at (told_units c (observed c past) q j) u (ltb-true u n a.0) in
-    by (answer_in (observed c past) q j) refl x (some_op c (told_ticket (observed c past) q j) u x.0 x.1) a.1
+    by (answer_in (observed c past) q j) refl x (some_op c (told_ticket (observed c past) q j) u x.0
+    (unit_of_entry c (observed c past) q j u x.0 x.1)) a.1
   where
     by : (o : Option ReapedLine) → answer_in (observed c past) q j ≡ o
         → ((r : Range) × (slice_get (told_units c (observed c past) q j) u ≡ Some r))

@@ -6,6 +6,7 @@ use Rattle.std.proofs.lemmas.Bool.{and_parts, cases_Bool, cases_lt, cond-false, 
 use Rattle.nvme_model.specs.Config.{completion_queue}
 use Rattle.nvme_model.specs.EntryBytes.{cqe_fields, sqe_fields}
 use Rattle.nvme_model.specs.Operations.{units}
+use Rattle.nvme_model.specs.Tickets.{Ticket}
 use Rattle.nvme_model.specs.declared.array.Range.{Range}
 use Rattle.nvme_model.specs.declared.config.ConfigNumbers.{ConfigNumbers}
 use Rattle.nvme_model.specs.declared.submission.Submission.{Submission}
@@ -19,7 +20,7 @@ use Rattle.refutation_laws.specs.LineRules.{least_fetched}
 use Rattle.refutation_laws.specs.Lines.{answer_in, answered, before_entry, is_number, published_in, reaped_in}
 use Rattle.refutation_laws.specs.Lines.{waiting_in}
 use Rattle.refutation_laws.specs.Places.{answer_place, comes_before_by_place, head_place, is_among, larger}
-use Rattle.refutation_laws.specs.Told.{is_sure, says_differs, says_done, told_units, told_verdict}
+use Rattle.refutation_laws.specs.Told.{is_sure, says_differs, says_done, told_units, told_verdict, is_inside}
 use Rattle.refutation_laws.proofs.BookAnswers.{unanswered}
 use Rattle.refutation_laws.proofs.LineOrders.{LinesBefore, lines_before}
 use Rattle.refutation_laws.proofs.PostOrders.{entries_end, published_grows, reaps_end}
@@ -133,7 +134,12 @@ no_command = record { entry = []; payload = [] }
 -- the units of a command, by its first entry
 abbrev units_of : ConfigNumbers → ℕ → Submission → List Range
 units_of c q s =
-    units c (record { queue = q; commands = s ∷ no_command ∷ []; verdict = told_verdict (sqe_fields s.entry).fuse })
+    let k : Ticket = record {
+      queue = q;
+      commands = s ∷ no_command ∷ [];
+      verdict = told_verdict (sqe_fields s.entry).fuse;
+    } in
+    cond (is_inside c k) (units c k) []
 
 units_stay : (c : ConfigNumbers) (more trace : List Seen) (q j : ℕ) → j < length (published_in trace q)
     → told_units c (more ++ trace) q j ≡ told_units c trace q j

@@ -188,6 +188,7 @@ pub record DoesAlike (k m : Ticket) : Type 0 where
   pub written : (l : ℕ) → write_data k l ≡ write_data m l
   pub compared : (l : ℕ) → compare_data k l ≡ compare_data m l
   pub slba : slba (first_fields k) ≡ slba (first_fields m)
+  pub blocks : block_count (first_fields k) ≡ block_count (first_fields m)
 
 block_at : ℕ → List ℕ → ℕ → List ℕ
 block_at s payload l = take 512 (drop (512 * (l - s)) payload)
@@ -203,6 +204,7 @@ told_alike o seen trace q j h =
       written = λ l. by l (Operations.op k) ∙ ap (λ (x : Option Op). write_data_by x m l) does;
       compared = compared;
       slba = first.slba;
+      blocks = first.blocks;
     }
   where
     k : Ticket

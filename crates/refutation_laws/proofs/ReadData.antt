@@ -36,7 +36,7 @@ use Rattle.trace.specs.Observed.{observed}
 use Rattle.trace.specs.declared.seen.ReapedLine.{ReapedLine}
 use Rattle.refutation_laws.specs.Told.{told_ticket, told_units}
 use Rattle.refutation_laws.proofs.Answered.{DoneCommand, TicketOf}
-use Rattle.refutation_laws.proofs.ToldTickets.{same_units}
+use Rattle.refutation_laws.proofs.ToldTickets.{same_units, unit_inside, unit_of_entry}
 
 -- ---- a block has 512 bytes
 
@@ -172,7 +172,8 @@ read_block c past q j u l r x before k d h o e f low high =
     let m = told_ticket (observed c past) q j in
     let t = k.ticket in
     let n = Tickets.ticket past t in
-    let us = told_units c (observed c past) q j in
+    let same = unit_inside c (observed c past) q j u x e in
+    let us = units c m in
     let s = slba (first_fields m) in
     let does : op n ≡ Some Op.Read = k.alike.op ∙ o in
     let all : r.payload ≡ joined (λ i. contents_at (effect past t i)) 0 us =
@@ -185,7 +186,8 @@ read_block c past q j u l r x before k d h o e f low high =
     let zero_u : 0 + u ≡ u = omega arith in
     ap (λ (p : List ℕ). take 512 (drop (512 * (l - s)) p)) all
     ∙ units_block (λ i. contents_at (effect past t i)) c.atomic s (block_count (first_fields m)) 0 u l us x cut
-    (λ i y g b. full i b (d.effects i y g)) e low high
+    (λ i y g b. full i b (d.effects i y (ap (λ (xs : List Range). slice_get xs i) same ∙ g)))
+    (unit_of_entry c (observed c past) q j u x e) low high
     ∙ ap (λ (i : ℕ). contents_at (effect past t i) l) zero_u
     ∙ ap (λ (p : Option Past). contents_at p l) f
   where

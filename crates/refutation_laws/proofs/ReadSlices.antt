@@ -70,7 +70,10 @@ same_data o (Some r) (Some t) h = h.2
 
 module _ (o : TraceOptions) (c : ConfigNumbers) where
   same_cut : (seen trace : List Seen) (q j : ℕ) → Reads o seen trace → told_units c seen q j ≡ told_units c trace q j
-  same_cut seen trace q j h = (told_alike o seen trace q j h).units c
+  same_cut seen trace q j h =
+      let k = told_alike o seen trace q j h in
+      ap₂ (λ (n : ℕ) (us : List Range). cond (nat_le n c.blocks) us []) (ap₂ (λ (m n : ℕ). m + n) k.slba k.blocks)
+      (k.units c)
 
   pub same_sure : (seen trace : List Seen) (q j u : ℕ) → Reads o seen trace
       → is_sure c seen q j u ≡ is_sure c trace q j u
@@ -249,7 +252,7 @@ module _ (o : TraceOptions) (c : ConfigNumbers) where
   same_may_write seen trace n l h =
       let k = told_alike o seen trace n.queue n.number h in
       ap₂ (λ (x : Option Op) (us : List Range). has_write x && is_block_of (slice_get us n.unit) l
-      && not (says_failed (answer_of seen n))) k.op (k.units c)
+      && not (says_failed (answer_of seen n))) k.op (same_cut seen trace n.queue n.number h)
       ∙ ap (λ (f : Bool). has_write (op (ticket_of trace n)) && is_block_of (range_of c trace n) l && not f)
       (same_failed o (answer_of seen n) (answer_of trace n) (same_answer o seen trace n.queue n.number h))
 
@@ -258,7 +261,7 @@ module _ (o : TraceOptions) (c : ConfigNumbers) where
   same_surely seen trace n l h =
       let k = told_alike o seen trace n.queue n.number h in
       ap₂ (λ (x : Option Op) (us : List Range). has_write x && is_block_of (slice_get us n.unit) l
-      && says_done (answer_of seen n)) k.op (k.units c)
+      && says_done (answer_of seen n)) k.op (same_cut seen trace n.queue n.number h)
       ∙ ap (λ (f : Bool). has_write (op (ticket_of trace n)) && is_block_of (range_of c trace n) l && f)
       (same_done o (answer_of seen n) (answer_of trace n) (same_answer o seen trace n.queue n.number h))
 

@@ -1,6 +1,7 @@
 -- The ticket of an effect is the one that the trace tells.
 use Rattle.nvme_model.specs.Operations
 use Rattle.nvme_model.specs.Tickets
+use Rattle.std.proofs.Common.{[], ◌+◌, ◌≤◌, arith, is_some, le-leb, length}
 use Rattle.std.proofs.Common.{◌≡◌, ℕ, suc, ◌*◌, ◌-◌, Bool, true, false, not, ◌&&◌, ◌||◌, cond, List, ◌∷◌, refl, sym, ap}
 use Rattle.std.proofs.Common.{ap₂, ◌∙◌, subst, Option, Some, None, eqb, take, drop, slice_get}
 use Rattle.std.specs.List.{list_all}
@@ -26,12 +27,14 @@ use Rattle.nvme_model.specs.declared.entry.Entry.{Entry}
 use Rattle.nvme_model.specs.declared.operation.Op.{Op}
 use Rattle.nvme_model.specs.declared.status.Verdict.{Verdict}
 use Rattle.nvme_model.specs.declared.submission.Submission.{Submission}
+use Rattle.nvme_model.proofs.Beginnings.{earlier}
+use Rattle.nvme_model.proofs.Checked.{ticket_checked}
 use Rattle.nvme_model.proofs.Cut.{clash}
 use Rattle.nvme_model.proofs.NextPost.{not_pair}
 use Rattle.host_laws.proofs.Later.{block_facts}
 use Rattle.host_laws.proofs.Verdicts.{VerdictIs, fuse, no_command}
 use Rattle.refutation_laws.specs.Lines.{published_in}
-use Rattle.refutation_laws.specs.Told.{told_ticket, told_verdict}
+use Rattle.refutation_laws.specs.Told.{is_inside, told_ticket, told_units, told_verdict}
 use Rattle.refutation_laws.proofs.NamedEffects.{EffectBy, effect_of, entries_of}
 use Rattle.trace.specs.declared.seen.Seen.{Seen}
 
@@ -111,11 +114,42 @@ pub same_writes : (contents : ℕ → List ℕ) (k m : Ticket) (r : Range) → I
 same_writes contents k m r h =
     ap₂ (λ (o : Option Op) (x : Bool). has_write o && (not (has_compare o) || x)) h.op (same_equal contents k m r h)
 
+-- ---- units in the volume
+
+pub inside_units : (c : ConfigNumbers) (trace : List Seen) (q j : ℕ) → is_inside c (told_ticket trace q j) ≡ true
+    → told_units c trace q j ≡ units c (told_ticket trace q j)
+inside_units c trace q j e =
+    cond-true (is_inside c (told_ticket trace q j)) (units c (told_ticket trace q j)) [] e
+
+-- a command that has a unit has those of its entry
+pub unit_inside : (c : ConfigNumbers) (trace : List Seen) (q j u : ℕ) (r : Range)
+    → slice_get (told_units c trace q j) u ≡ Some r → told_units c trace q j ≡ units c (told_ticket trace q j)
+unit_inside c trace q j u r h = go (is_inside c (told_ticket trace q j)) refl h
+  where
+    go : (b : Bool) → is_inside c (told_ticket trace q j) ≡ b
+        → slice_get (cond b (units c (told_ticket trace q j)) []) u ≡ Some r
+        → told_units c trace q j ≡ units c (told_ticket trace q j)
+    go true e f = inside_units c trace q j e
+    go false e f = absurd (let z : None ≡ Some r = f in cc)
+
+pub unit_of_entry : (c : ConfigNumbers) (trace : List Seen) (q j u : ℕ) (r : Range)
+    → slice_get (told_units c trace q j) u ≡ Some r → slice_get (units c (told_ticket trace q j)) u ≡ Some r
+unit_of_entry c trace q j u r h = ap (λ (xs : List Range). slice_get xs u) (sym (unit_inside c trace q j u r h)) ∙ h
+
+pub one_inside : (c : ConfigNumbers) (trace : List Seen) (q j : ℕ) → length (told_units c trace q j) ≡ 1
+    → length (units c (told_ticket trace q j)) ≡ 1
+one_inside c trace q j h = go (is_inside c (told_ticket trace q j)) h
+  where
+    go : (b : Bool) → length (cond b (units c (told_ticket trace q j)) []) ≡ 1
+        → length (units c (told_ticket trace q j)) ≡ 1
+    go true f = f
+    go false f = absurd (omega (arith, f))
+
 -- ---- the ticket of an effect
 
 pub record ToldEffect (c : ConfigNumbers) (trace : List Seen) (q j u : ℕ) (before : Past) (b : BlockLine) : Type 0 where
   pub alike : IsAlike (Tickets.ticket before b.ticket) (told_ticket trace q j)
-  pub range : slice_get (units c (told_ticket trace q j)) u ≡ Some (unit_range before b.ticket b.unit)
+  pub range : slice_get (told_units c trace q j) u ≡ Some (unit_range before b.ticket b.unit)
   pub some : (o : Op) × (op (told_ticket trace q j) ≡ Some o)
   pub passed : passed (Tickets.ticket before b.ticket).verdict ≡ true
 
@@ -146,9 +180,16 @@ told_effect c past trace q j u before at h same =
           (subst (λ (xs : List Submission). slice_get xs (suc j) ≡ Some (command k 1)) same
           (s.second (pair_takes_two k (ap is_pair p)))));
     } in
+    let legal : IsLegal c before = earlier c (Entry.Block b ∷ []) before f.legal in
+    let within : is_inside c m ≡ true =
+    le-leb (slba (first_fields m) + block_count (first_fields m)) c.blocks
+    (subst (λ (s : Submission). slba (sqe_fields s.entry) + block_count (sqe_fields s.entry) ≤ c.blocks) first
+    (ticket_checked c before b.ticket legal (ap is_some o.1)).first.inside) in
     record {
       alike = alike;
-      range = ap (λ (xs : List Range). slice_get xs u) (sym (same_units c k m alike)) ∙ range;
+      range = ap (λ (xs : List Range). slice_get xs u)
+          (inside_units c trace q j within ∙ sym (same_units c k m alike))
+          ∙ range;
       some = (o.0, sym alike.op ∙ o.1);
       passed = ok;
     }

@@ -1,11 +1,12 @@
 -- What a trace tells of its commands: what they do, and how they were answered. A command is named by its submission
 -- queue and the number there, from 0, of its first entry; its units by their numbers, from 0.
-use Rattle.std.specs.Prelude.{Bool, List, None, Option, Some, [], false, get_or, if◌then◌else◌, length, nat_lt, suc, ℕ}
+use Rattle.std.specs.Prelude.{Bool, List, None, Option, Some, [], false, get_or, if◌then◌else◌, length, nat_le, nat_lt}
+use Rattle.std.specs.Prelude.{suc, ℕ, ◌+◌}
 use Rattle.std.specs.Prelude.{◌&&◌, ◌==◌, ◌||◌, ◌∷◌}
-use Rattle.nvme_model.specs.EntryBytes.{sqe_fields}
+use Rattle.nvme_model.specs.EntryBytes.{block_count, slba, sqe_fields}
 use Rattle.nvme_model.specs.Operations.{units}
 use Rattle.nvme_model.specs.Statuses.{compare_failure, is_success, missing_fused, same_status}
-use Rattle.nvme_model.specs.Tickets.{Ticket}
+use Rattle.nvme_model.specs.Tickets.{Ticket, first_fields}
 use Rattle.nvme_model.specs.declared.array.Range.{Range}
 use Rattle.nvme_model.specs.declared.config.ConfigNumbers.{ConfigNumbers}
 use Rattle.nvme_model.specs.declared.status.Verdict.{Verdict}
@@ -33,9 +34,15 @@ told_ticket trace q j =
       verdict = told_verdict (sqe_fields first.entry).fuse;
     }
 
--- The units of a command, as its entry has them.
+-- The volume has all blocks of a ticket's command.
+abbrev pub is_inside : ConfigNumbers → Ticket → Bool
+is_inside c k = nat_le (slba (first_fields k) + block_count (first_fields k)) c.blocks
+
+-- The units of a command, as its entry has them; none where the volume doesn't have all its blocks.
 abbrev pub told_units : ConfigNumbers → List Seen → ℕ → ℕ → List Range
-told_units c trace q j = units c (told_ticket trace q j)
+told_units c trace q j =
+    let k = told_ticket trace q j in
+    if is_inside c k then units c k else []
 
 -- success was seen
 abbrev pub says_done : Option ReapedLine → Bool
