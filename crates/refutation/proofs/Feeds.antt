@@ -1,0 +1,60 @@
+-- Lines with their line feeds, one after another.
+use Rattle.std.proofs.Common.{List, [], ap, append_assoc, drop, get_or, length, map, refl, sym, take, take-append-drop}
+use Rattle.std.proofs.Common.{ℕ}
+use Rattle.std.proofs.Common.{◌+◌, ◌++◌, ◌<◌, ◌∙◌, ◌∷◌, ◌≡◌}
+use Rattle.std.proofs.lemmas.List.{map-append, take_more}
+use Rattle.std.specs.Prelude.{codes}
+use Rattle.line_text.specs.Lines.{with_feeds}
+use Rattle.refutation.specs.Refutations.{Refutation}
+use Rattle.refutation.specs.Texts.{block_line, command_line, count_line, front_text, refutation_text, slice_text}
+
+pub feeds_none : with_feeds [] ≡ []
+unfolding with_feeds
+feeds_none = refl
+
+pub feeds_append : (xs ys : List (List ℕ)) → with_feeds (xs ++ ys) ≡ with_feeds xs ++ with_feeds ys
+unfolding with_feeds
+feeds_append [] ys = refl
+feeds_append (x ∷ xs) ys =
+    ap (λ l. x ++ (10 ∷ l)) (feeds_append xs ys) ∙ sym (append_assoc x (10 ∷ with_feeds xs) (with_feeds ys))
+
+pub feeds_one : (x : List ℕ) → with_feeds (x ∷ []) ≡ x ++ 10 ∷ []
+unfolding with_feeds
+feeds_one x = refl
+
+module _ {A : Type 0} (f : A → List ℕ) where
+  -- one line more
+  pub feeds_more : (xs : List A) (i : ℕ) (d : A) → i < length xs
+      → with_feeds (map f (take (i + 1) xs)) ≡ with_feeds (map f (take i xs)) ++ (f (get_or xs i d) ++ 10 ∷ [])
+  feeds_more xs i d l =
+      ap (λ t. with_feeds (map f t)) (take_more xs i d l)
+      ∙ ap with_feeds (map-append f (take i xs) (get_or xs i d ∷ []))
+      ∙ feeds_append (map f (take i xs)) (f (get_or xs i d) ∷ [])
+      ∙ ap (λ t. with_feeds (map f (take i xs)) ++ t) (feeds_one (f (get_or xs i d)))
+
+  -- those before a line, the line, and those behind it
+  pub feeds_at : (xs : List A) (i : ℕ) (d : A) → i < length xs
+      → with_feeds (map f xs)
+      ≡ with_feeds (map f (take i xs)) ++ ((f (get_or xs i d) ++ 10 ∷ []) ++ with_feeds (map f (drop (i + 1) xs)))
+  feeds_at xs i d l =
+      ap (λ t. with_feeds (map f t)) (sym (take-append-drop (i + 1) xs))
+      ∙ ap with_feeds (map-append f (take (i + 1) xs) (drop (i + 1) xs))
+      ∙ feeds_append (map f (take (i + 1) xs)) (map f (drop (i + 1) xs))
+      ∙ ap (λ t. t ++ with_feeds (map f (drop (i + 1) xs))) (feeds_more xs i d l)
+      ∙ append_assoc (with_feeds (map f (take i xs))) (f (get_or xs i d) ++ 10 ∷ [])
+      (with_feeds (map f (drop (i + 1) xs)))
+
+-- the text of a refutation, by its parts
+pub text_is : (r : Refutation) → refutation_text r ≡ front_text r.lines ++ slice_text r.blocks r.commands
+unfolding with_feeds
+text_is r =
+    ap (λ l. (codes "refutation" ++ 10 ∷ []) ++ (count_line r.lines ++ 10 ∷ l))
+    (feeds_append (map block_line r.blocks) (map command_line r.commands))
+    ∙ ap (λ l. (codes "refutation" ++ 10 ∷ []) ++ l)
+    (sym (append_assoc (count_line r.lines) (10 ∷ []) (slice_text r.blocks r.commands)))
+
+-- and by parts that are equal
+pub text_by : (r : Refutation) (lines : ℕ) (blocks : List ℕ) (commands : List (ℕ × ℕ)) → lines ≡ r.lines
+    → blocks ≡ r.blocks → commands ≡ r.commands → refutation_text r ≡ front_text lines ++ slice_text blocks commands
+text_by r lines blocks commands e f h =
+    text_is r ∙ (λ i. front_text (sym e i) ++ slice_text (sym f i) (sym h i))

@@ -1,0 +1,3 @@
+pub mod Refutations
+pub mod Texts
+pub mod Reads

@@ -1,0 +1,49 @@
+-- What is refuted has no explanation.
+use Rattle.std.proofs.Common.{◌≡◌, ℕ, ◌-◌, Bool, true, false, not, ◌&&◌, ◌||◌, List, ◌++◌, inl, inr, length, nat_le}
+use Rattle.std.proofs.Common.{subst}
+use Rattle.std.proofs.Common.{sym, take, take-append-drop}
+use Rattle.std.proofs.lemmas.Bool.{and_parts, or_cases}
+use Rattle.nvme_model.specs.Array.{zeros}
+use Rattle.nvme_model.specs.Config.{is_accepted}
+use Rattle.nvme_model.specs.History.{Past}
+use Rattle.nvme_model.specs.declared.config.ConfigNumbers.{ConfigNumbers}
+use Rattle.trace.specs.Observed.{Explains}
+use Rattle.trace.specs.declared.options.TraceOptions.{TraceOptions}
+use Rattle.trace.specs.declared.seen.Seen.{Seen}
+use Rattle.slice_orders.specs.Layers.{has_no_order}
+use Rattle.slice_orders.proofs.Steps.{no_order}
+use Rattle.refutation_laws.specs.Lines.{is_tidy}
+use Rattle.refutation_laws.specs.ReadRules.{is_bad_read_line}
+use Rattle.refutation_laws.specs.Refuted.{first_lines, is_refuted, lacks_order}
+use Rattle.refutation_laws.specs.Slices.{slice_of}
+use Rattle.refutation_laws.proofs.ReadRules.{nothing_reads}
+use Rattle.refutation_laws.proofs.SliceWalks.{order_as_read}
+
+is_off : (b : Bool) → not b ≡ true → b ≡ false
+is_off true h = let f : false ≡ true = h in cc
+is_off false h = let f : true ≡ true = h in cc
+
+-- a slice that lacks an order refutes each trace that begins so
+pub none_lacks : (o : TraceOptions) (c : ConfigNumbers) (past : Past) (more first : List Seen)
+    (commands : List (ℕ × ℕ)) (blocks : List ℕ) → o.contents_unknown ≡ false → is_accepted c ≡ true
+    → lacks_order o c first commands blocks ≡ true → Explains o c past (more ++ first) → ⊥
+none_lacks o c past more first commands blocks known a h x =
+    let y = and_parts (is_tidy first) (has_no_order zeros (slice_of o c first commands blocks)) h in
+    let r = order_as_read o c past more first commands blocks known a x y.0 in
+    no_order zeros (slice_of o c first commands blocks) r.0 y.1 r.1
+
+pub none_refuted : (o : TraceOptions) (c : ConfigNumbers) (past : Past) (trace : List Seen) (lines : ℕ)
+    (commands : List (ℕ × ℕ)) (blocks : List ℕ) → is_accepted c ≡ true
+    → is_refuted o c trace lines commands blocks ≡ true → Explains o c past trace → ⊥
+none_refuted o c past trace lines commands blocks a h x =
+    let k = length trace - lines in
+    let first = first_lines lines trace in
+    let y = and_parts (not o.contents_unknown && nat_le lines (length trace))
+    (is_bad_read_line o c first || lacks_order o c first commands blocks) h in
+    let known = is_off o.contents_unknown (and_parts (not o.contents_unknown) (nat_le lines (length trace)) y.0).0 in
+    let whole : Explains o c past (take k trace ++ first) =
+    subst (λ (t : List Seen). Explains o c past t) (sym (take-append-drop k trace)) x in
+    elim (or_cases (is_bad_read_line o c first) (lacks_order o c first commands blocks) y.1) [
+      | inl bad ↦ nothing_reads o c past (take k trace) first known a bad whole
+      | inr lacks ↦ none_lacks o c past (take k trace) first commands blocks known a lacks whole
+    ]

@@ -1,0 +1,12 @@
+pub mod Lines
+pub mod MayAnswer
+pub mod LineRules
+pub mod ReadRules
+pub mod Effects
+pub mod Told
+pub mod EffectOrders
+pub mod Slices
+pub mod Refuted
+pub mod QueueBooks
+pub mod Places
+pub mod Writers

@@ -1,0 +1,23 @@
+use Rattle.std.proofs.Common.{List, [], ap, arith, get_or, length, length-take, subst, sym, take, ℕ, ◌+◌, ◌<◌, ◌∙◌}
+use Rattle.std.proofs.Common.{◌∷◌, ◌≡◌}
+use Rattle.std.specs.Prelude.{reverse}
+use Rattle.std.proofs.lemmas.List.{length-reverse, reverse-append, take_more}
+use Rattle.trace.specs.declared.seen.Seen.{Seen}
+use Rattle.trace_answers.specs.Answers.{KnowsAnswers, answers_in}
+use Rattle.trace_answers.proofs.tables.TraceAnswers.of_trace.Goals as goal
+
+-- one line more is the newest
+one_line : (xs : List Seen) (i : ℕ) (d : Seen) → i < length xs
+    → get_or xs i d ∷ reverse (take i xs) ≡ reverse (take (i + 1) xs)
+one_line xs i d l = sym (ap reverse (take_more xs i d l) ∙ reverse-append (take i xs) (get_or xs i d ∷ []))
+
+pub loop-place-preserved : goal.loop-place-preserved
+loop-place-preserved c =
+    let xs = c.args.trace.now in
+    let i = c.loop-place.place in
+    let d = c.index-trace-place.result in
+    let long : i ≡ length (reverse (take i xs)) =
+    omega (arith, length-reverse (take i xs), length-take i xs, c.loop-place-test.true) in
+    subst (λ t. KnowsAnswers t (answers_in c.take.new.self))
+    (ap (λ s. s ∷ reverse (take i xs)) c.index-trace-place.is ∙ one_line xs i d c.loop-place-test.true)
+    (c.in_ok-take.ensures (reverse (take i xs)) c.loop-place.invariant long)

@@ -1,0 +1,73 @@
+//! Entries and answers of a trace, by its tables.
+
+ghost use Rattle.std.specs.Prelude.{◌≡◌, option_copied, reverse, slice_get};
+ghost use Rattle.refutation_laws.specs.Lines.{answer_in, published_in};
+ghost use Rattle.trace_answers.specs.Answers.{KnowsAnswers, answers_in, entry_at, reaped_at};
+
+use crate::tables::{EntryCid, EntryNumber, EntryPlace, TraceAnswers};
+use nvme_model::submission::Submission;
+use trace::{ReapedLine, Seen};
+
+fn entry_at<'a>(trace: &'a [Seen], place: Option<EntryPlace>) -> Option<&'a Submission>
+    ensures { option_copied result ≡ entry_at trace.now place }
+{
+    let at = place?;
+    match trace.get(at.line)? {
+        Seen::Published(line) => line.batch.as_slice().get(at.place),
+        Seen::Reaped(_) => None,
+    }
+}
+
+fn reaped_at<'a>(trace: &'a [Seen], number: Option<usize>) -> Option<&'a ReapedLine>
+    ensures { option_copied result ≡ reaped_at trace.now number }
+{
+    match trace.get(number?)? {
+        Seen::Published(_) => None,
+        Seen::Reaped(line) => Some(line),
+    }
+}
+
+impl TraceAnswers {
+    /// Where an entry of a submission queue is published.
+    pub fn place(&self, queue: u16, number: u64) -> Option<EntryPlace>
+        ensures value { result ≡ (answers_in self.now).entries queue number }
+    {
+        self.entries.get(&EntryNumber { queue, number }).copied()
+    }
+
+    /// The line that answers an entry of a submission queue, from 0.
+    pub fn answer(&self, queue: u16, number: u64) -> Option<usize>
+        ensures value { result ≡ (answers_in self.now).answers queue number }
+    {
+        self.answers.get(&EntryNumber { queue, number }).copied()
+    }
+
+    /// The number of the entry that waits under a CID of a submission queue.
+    pub fn waiting(&self, queue: u16, cid: u16) -> Option<u64>
+        ensures value { result ≡ (answers_in self.now).waiting queue cid }
+    {
+        self.waiting.get(&EntryCid { queue, cid }).copied()
+    }
+
+    /// An entry of a submission queue, of the trace whose tables these are, the oldest line first.
+    pub fn entry<'a>(&self, trace: &'a [Seen], queue: u16, number: u64) -> Option<&'a Submission>
+        ensures value { KnowsAnswers (reverse trace.now) (answers_in self.now) →
+            option_copied result ≡ slice_get (published_in (reverse trace.now) queue) number }
+    {
+        entry_at(trace, self.place(queue, number))
+    }
+
+    /// The completion that answers an entry of a submission queue, of the trace whose tables these are, the oldest line
+    /// first.
+    pub fn completion<'a>(
+        &self,
+        trace: &'a [Seen],
+        queue: u16,
+        number: u64,
+    ) -> Option<&'a ReapedLine>
+        ensures value { KnowsAnswers (reverse trace.now) (answers_in self.now) →
+            option_copied result ≡ answer_in (reverse trace.now) queue number }
+    {
+        reaped_at(trace, self.answer(queue, number))
+    }
+}
