@@ -2,5 +2,10 @@
 #![tactic(auto)]
 
 mod completions;
+mod entries;
 mod fields;
 mod publishes;
+
+pub use crate::completions::{has_wrong_phase, names_wrong_queue, sets_unused_bits};
+pub use crate::entries::{has_wrong_data, has_wrong_second, names_no_entry};
+pub use crate::publishes::has_wrong_batch;
