@@ -1,8 +1,10 @@
 //! Entries and answers of a trace, by its tables.
 
-ghost use Rattle.std.specs.Prelude.{◌≡◌, option_copied, reverse, slice_get};
+ghost use Rattle.std.specs.Prelude.{◌≡◌, ◌-◌, ◌<◌, ◌^◌, List, option_copied, reverse, slice_get};
+ghost use Rattle.trace.specs.declared.seen.Seen.{Seen};
 ghost use Rattle.refutation_laws.specs.Lines.{answer_in, published_in};
-ghost use Rattle.trace_answers.specs.Answers.{KnowsAnswers, answers_in, entry_at, reaped_at};
+ghost use Rattle.refutation_laws.specs.MayAnswer.{are_together};
+ghost use Rattle.trace_answers.specs.Answers.{KnowsAnswers, answers_in, are_at_one_line, entry_at, reaped_at};
 
 use crate::tables::{EntryCid, EntryNumber, EntryPlace, TraceAnswers};
 use nvme_model::submission::Submission;
@@ -24,6 +26,18 @@ fn reaped_at<'a>(trace: &'a [Seen], number: Option<usize>) -> Option<&'a ReapedL
     match trace.get(number?)? {
         Seen::Published(_) => None,
         Seen::Reaped(line) => Some(line),
+    }
+}
+
+fn are_at_one_line(first: Option<EntryPlace>, second: Option<EntryPlace>) -> bool
+    ensures { result ≡ are_at_one_line first second }
+{
+    match second {
+        None => first.is_none(),
+        Some(b) => match first {
+            None => false,
+            Some(a) => a.line == b.line,
+        },
     }
 }
 
@@ -69,5 +83,14 @@ impl TraceAnswers {
             option_copied result ≡ answer_in (reverse trace.now) queue number }
     {
         reaped_at(trace, self.answer(queue, number))
+    }
+
+    /// Whether one line publishes this entry of a submission queue and the next.
+    pub fn are_together(&self, queue: u16, number: u64) -> bool
+        requires some { number < 2 ^ 64 - 1 }
+        ensures value { (trace : List Seen) → KnowsAnswers trace (answers_in self.now) →
+            result ≡ are_together trace queue number }
+    {
+        are_at_one_line(self.place(queue, number), self.place(queue, number + 1))
     }
 }
