@@ -62,6 +62,7 @@ fn count_of(counts: &HashMap<u16, u64>, queue: u16) -> u64
 fn add_one(counts: &mut HashMap<u16, u64>, queue: u16) -> Result<(), NoMemory>
     ensures ok { OnOk result ((q : ℕ) →
         unwrap_or (get nat_eq counts.new q) 0 ≡ unwrap_or (get nat_eq counts.old q) 0 + (if queue == q then 1 else 0)) }
+    ensures few { OnOk result (unwrap_or (get nat_eq counts.new queue) 0 < 2 ^ 64) }
 {
     let Some(more) = count_of(counts, queue).checked_add(1) else {
         return Err(NoMemory);
@@ -108,6 +109,7 @@ impl TraceAnswers {
         ensures tidy { OnOk result ((answers_in self.new).tidy ≡
             ((answers_in self.old).tidy && is_none ((answers_in self.old).waiting queue (cid_of entry.now)))) }
         ensures fits { cid_of entry.now < 2 ^ 16 }
+        ensures few { OnOk result ((answers_in self.new).published queue < 2 ^ 64) }
     {
         let cid = cid_of(entry);
         let number = count_of(&self.published, queue);
