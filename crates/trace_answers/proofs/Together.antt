@@ -83,7 +83,7 @@ older p trace q k h = by (p.queue == q) refl
     by false e = refl
 
 -- an entry has no place exactly where it isn't published
-none_is : (trace : List Seen) (q k : ℕ) → is_none (entry_place trace q k) ≡ nat_le (count trace q) k
+pub none_is : (trace : List Seen) (q k : ℕ) → is_none (entry_place trace q k) ≡ nat_le (count trace q) k
 none_is [] q k = sym (le-leb 0 k (omega arith))
 none_is (Seen.Reaped r ∷ trace) q k = none_is trace q k
 none_is (Seen.Published p ∷ trace) q k =
@@ -109,7 +109,7 @@ none_is (Seen.Published p ∷ trace) q k =
 
 -- ---- two entries
 
-none_of : (o : Option EntryPlace) → is_none o ≡ true → o ≡ None
+pub none_of : (o : Option EntryPlace) → is_none o ≡ true → o ≡ None
 none_of None e = refl
 none_of (Some p) e = absurd (true≢false (sym e))
 
