@@ -3,7 +3,6 @@
 ghost use Rattle.std.specs.Prelude.{◌≡◌, ◌&&◌, List, length, option_copied, reverse, slice_get};
 ghost use Rattle.nvme_model.specs.Commands.{is_read};
 ghost use Rattle.nvme_model.specs.EntryBytes.{block_count, sqe_fields};
-ghost use Rattle.nvme_model.specs.Statuses.{compare_failure, failed_fused, is_success, same_status};
 ghost use Rattle.host_laws.specs.Calls.{cqe_status};
 ghost use Rattle.trace.specs.declared.seen.Seen.{Seen};
 ghost use Rattle.refutation_laws.specs.LineRules.{answers_apart, has_wrong_data, has_wrong_second, is_apart_from};
@@ -12,14 +11,15 @@ ghost use Rattle.refutation_laws.specs.Lines.{answer_in, answered, published_in}
 ghost use Rattle.refutation_laws.specs.MayAnswer.{data_owed, has_fuse};
 ghost use Rattle.trace_answers.specs.Answers.{KnowsAnswers, answers_in};
 
-use crate::fields::status_of;
+use crate::fields::{is_success, same_status, status_of};
 use byteorder::{ByteOrder, LittleEndian};
+use nvme_model::status::Status;
 use nvme_model::submission::Submission;
 use trace::{ReapedLine, Seen};
 use trace_answers::{TraceAnswers, cid_named, queue_of};
 
 // The number of the entry that a completion answers.
-fn answered(tables: &TraceAnswers, cqe: &[u8; 16]) -> Option<u64>
+pub(crate) fn answered(tables: &TraceAnswers, cqe: &[u8; 16]) -> Option<u64>
     ensures value { (trace : List Seen) → KnowsAnswers trace (answers_in tables.now) →
         result ≡ answered trace cqe.now }
 {
@@ -34,27 +34,6 @@ pub fn names_no_entry(tables: &TraceAnswers, line: &ReapedLine) -> bool
     answered(tables, &line.cqe).is_none()
 }
 
-fn is_success(cqe: &[u8; 16]) -> bool
-    ensures value { result ≡ is_success (cqe_status cqe.now) }
-{
-    let (sct, sc) = status_of(cqe);
-    sct == 0 && sc == 0
-}
-
-fn is_compare_failure(cqe: &[u8; 16]) -> bool
-    ensures value { result ≡ same_status (cqe_status cqe.now) compare_failure }
-{
-    let (sct, sc) = status_of(cqe);
-    sct == 2 && sc == 0x85
-}
-
-fn is_failed_fused(cqe: &[u8; 16]) -> bool
-    ensures value { result ≡ same_status (cqe_status cqe.now) failed_fused }
-{
-    let (sct, sc) = status_of(cqe);
-    sct == 0 && sc == 9
-}
-
 fn is_read(entry: &Submission) -> bool
     ensures value { result ≡ is_read (sqe_fields entry.now.entry) }
 {
@@ -67,10 +46,10 @@ fn block_count(entry: &Submission) -> u32
     LittleEndian::read_u32(&entry.entry[48..52]) % 65536 + 1
 }
 
-fn data_owed(entry: &Submission, cqe: &[u8; 16]) -> usize
-    ensures value { result ≡ data_owed entry.now (cqe_status cqe.now) }
+fn data_owed(entry: &Submission, status: Status) -> usize
+    ensures value { result ≡ data_owed entry.now status }
 {
-    if is_success(cqe) && is_read(entry) {
+    if is_success(status) && is_read(entry) {
         512 * block_count(entry) as usize
     } else {
         0
@@ -82,7 +61,7 @@ fn owes_other_data(entry: Option<&Submission>, line: &ReapedLine) -> bool
         owes_other_data (option_copied entry.entry) (cqe_status line.now.cqe) (length line.now.payload) }
 {
     match entry {
-        Some(entry) => line.payload.as_slice().len() != data_owed(entry, &line.cqe),
+        Some(entry) => line.payload.as_slice().len() != data_owed(entry, status_of(&line.cqe)),
         None => false,
     }
 }
@@ -98,7 +77,7 @@ pub fn has_wrong_data(tables: &TraceAnswers, trace: &[Seen], line: &ReapedLine) 
     }
 }
 
-fn has_fuse(fuse: u8, entry: Option<&Submission>) -> bool
+pub(crate) fn has_fuse(fuse: u8, entry: Option<&Submission>) -> bool
     ensures value { result ≡ has_fuse fuse (option_copied entry.entry) }
 {
     match entry {
@@ -107,23 +86,30 @@ fn has_fuse(fuse: u8, entry: Option<&Submission>) -> bool
     }
 }
 
-fn answers_apart(first: &[u8; 16], second: &[u8; 16]) -> bool
-    ensures value { result ≡ answers_apart (cqe_status first.now) (cqe_status second.now) }
+fn answers_apart(first: Status, second: Status) -> bool
+    ensures value { result ≡ answers_apart first second }
 {
     (is_success(first) && !is_success(second))
-        || (is_compare_failure(first) && !is_failed_fused(second))
+        || (same_status(first, Status::COMPARE_FAILURE)
+            && !same_status(second, Status::FAILED_FUSED))
 }
 
 fn is_apart_from(first: Option<&ReapedLine>, line: &ReapedLine) -> bool
     ensures value { result ≡ is_apart_from (option_copied first.entry) (cqe_status line.now.cqe) }
 {
     match first {
-        Some(first) => answers_apart(&first.cqe, &line.cqe),
+        Some(first) => answers_apart(status_of(&first.cqe), status_of(&line.cqe)),
         None => false,
     }
 }
 
-fn entry_has_fuse(tables: &TraceAnswers, trace: &[Seen], queue: u16, number: u64, fuse: u8) -> bool
+pub(crate) fn entry_has_fuse(
+    tables: &TraceAnswers,
+    trace: &[Seen],
+    queue: u16,
+    number: u64,
+    fuse: u8,
+) -> bool
     ensures value { KnowsAnswers (reverse trace.now) (answers_in tables.now) →
         result ≡ has_fuse fuse (slice_get (published_in (reverse trace.now) queue) number) }
 {

@@ -5,6 +5,7 @@ mod completions;
 mod entries;
 mod fields;
 mod publishes;
+mod statuses;
 
 pub use crate::completions::{has_wrong_phase, names_wrong_queue, sets_unused_bits};
 pub use crate::entries::{has_wrong_data, has_wrong_second, names_no_entry};
