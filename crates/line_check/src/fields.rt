@@ -66,3 +66,10 @@ pub(crate) fn same_status(a: Status, b: Status) -> bool
 {
     a.sct() == b.sct() && a.sc() == b.sc()
 }
+
+/// The SQ Head Pointer.
+pub(crate) fn head_of(cqe: &[u8; 16]) -> u16
+    ensures value { result ≡ (cqe_fields cqe.now).sqhd }
+{
+    LittleEndian::read_u16(&cqe[8..10])
+}

@@ -4,6 +4,7 @@
 mod completions;
 mod entries;
 mod fields;
+mod heads;
 mod publishes;
 mod statuses;
 

@@ -79,7 +79,8 @@ fn short_fits(number: u16)
 }
 
 impl TraceAnswers {
-    fn new(alloc: Global) -> TraceAnswers
+    /// The tables of no lines.
+    pub fn new(alloc: Global) -> TraceAnswers
         ensures knows { KnowsAnswers [] (answers_in result) }
     {
         TraceAnswers {
@@ -173,7 +174,12 @@ impl TraceAnswers {
         }
     }
 
-    fn take(&mut self, line: &Seen, place: usize) -> Result<(), NoMemory>
+    /// Takes the next line, which has this number, from 0.
+    ///
+    /// # Errors
+    ///
+    /// `NoMemory` alone; the tables are then of no use.
+    pub fn take(&mut self, line: &Seen, place: usize) -> Result<(), NoMemory>
         ensures { (trace : List Seen) → KnowsAnswers trace (answers_in self.old) → place ≡ length trace →
             OnOk result (KnowsAnswers (line.now ∷ trace) (answers_in self.new)) }
     {
