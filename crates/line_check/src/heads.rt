@@ -85,3 +85,67 @@ fn least_behind(
     let count = least_of(config, tables, line, least)?;
     next_whole(config, tables, trace, queue, head_of(&line.cqe), count)
 }
+
+fn least_with(
+    config: &Config,
+    tables: &TraceAnswers,
+    trace: &[Seen],
+    line: &Seen,
+    queue: u16,
+    least: u64,
+) -> Option<u64>
+    ensures value { KnowsAnswers (reverse trace.now) (answers_in tables.now) →
+        least ≡ least_fetched config.now (reverse trace.now) queue →
+        IfSome result (λ n. n ≡ least_fetched config.now (line.now ∷ reverse trace.now) queue) }
+{
+    match line {
+        Seen::Published(_) => Some(least),
+        Seen::Reaped(line) => least_behind(config, tables, trace, line, queue, least),
+    }
+}
+
+// How many entries of a queue were fetched at least, behind these lines: one pass over them.
+fn least_fetched(
+    alloc: Global,
+    config: &Config,
+    trace: &[Seen],
+    queue: u16,
+) -> Result<u64, NoMemory>
+    ensures value { IfOk result (λ n. n ≡ least_fetched config.now (reverse trace.now) queue) }
+{
+    let mut tables = TraceAnswers::new(alloc);
+    let mut least = 0;
+    for (place, line) in trace.iter().enumerate() {
+        let before = &trace[..place];
+        let Some(more) = least_with(config, &tables, before, line, queue, least) else {
+            return Err(NoMemory);
+        };
+        least = more;
+        tables.take(line, place)?;
+    }
+    Ok(least)
+}
+
+/// Whether its SQHD is no slot, or more entries were fetched than are published.
+///
+/// # Errors
+///
+/// `NoMemory` alone.
+pub fn has_wrong_head(
+    alloc: Global,
+    config: &Config,
+    tables: &TraceAnswers,
+    trace: &[Seen],
+    line: &ReapedLine,
+) -> Result<bool, NoMemory>
+    ensures value { KnowsAnswers (reverse trace.now) (answers_in tables.now) →
+        IfOk result (λ bad. bad ≡ has_wrong_head config.now (reverse trace.now) line.now) }
+{
+    let queue = queue_of(&line.cqe);
+    let least = least_fetched(alloc, config, trace, queue)?;
+    let Some(fetched) = least_behind(config, tables, trace, line, queue, least) else {
+        return Err(NoMemory);
+    };
+    let slots = config.numbers().sq_size;
+    Ok(head_of(&line.cqe) >= slots || tables.count(queue) < fetched)
+}

@@ -1,11 +1,11 @@
 -- What one more line makes of the tables.
 use Rattle.std.proofs.Common.{Bool, List, None, Option, Some, [], ap, arith, drop, drop-cons, eq-eqb, false, get_or}
-use Rattle.std.proofs.Common.{if◌then◌else◌, length, refl, subst, suc, sym, true, ℕ, ◌&&◌, ◌+◌, ◌++◌, ◌-◌, ◌<◌, ◌≤◌, ◌==◌, ◌^◌}
+use Rattle.std.proofs.Common.{if◌then◌else◌, length, length-take, refl, subst, take, suc, sym, true, ℕ, ◌&&◌, ◌+◌, ◌++◌, ◌-◌, ◌<◌, ◌≤◌, ◌==◌, ◌^◌}
 use Rattle.std.proofs.Common.{◌∙◌, ◌∷◌, ◌≡◌}
-use Rattle.std.specs.Prelude.{Err, Ok, OnOk, Result, is_none, nat_le, nat_lt}
+use Rattle.std.specs.Prelude.{Err, Ok, OnOk, Result, is_none, nat_le, nat_lt, reverse}
 use Rattle.std.proofs.lemmas.Bool.{and_from, and_parts, and_right, cond-false, cond-true, eqb-false, eqb-true}
 use Rattle.std.proofs.lemmas.Bool.{false_from_ne_true, le-leb, leb-true, lt-ltb, ltb-true, true≢false}
-use Rattle.std.proofs.lemmas.List.{drop_all, length-append}
+use Rattle.std.proofs.lemmas.List.{drop_all, length-append, length-reverse, reverse-append, take_more}
 use Rattle.nvme_model.specs.EntryBytes.{cqe_fields}
 use Rattle.nvme_model.specs.declared.entry.PublishLine.{PublishLine}
 use Rattle.nvme_model.specs.declared.submission.Submission.{Submission}
@@ -223,3 +223,14 @@ reaped k now r trace o e h is = record {
   where
     same : o ≡ answered trace r.cqe
     same = e ∙ is.waiting (cqe_fields r.cqe).sqid (cqe_fields r.cqe).cid
+
+-- ---- a trace, the oldest line first
+
+-- one line more is the newest
+pub one_line : (xs : List Seen) (i : ℕ) (d : Seen) → i < length xs
+    → get_or xs i d ∷ reverse (take i xs) ≡ reverse (take (i + 1) xs)
+one_line xs i d l = sym (ap reverse (take_more xs i d l) ∙ reverse-append (take i xs) (get_or xs i d ∷ []))
+
+-- its number
+pub line_number : (xs : List Seen) (i : ℕ) → i < length xs → i ≡ length (reverse (take i xs))
+line_number xs i l = omega (arith, length-reverse (take i xs), length-take i xs, l)

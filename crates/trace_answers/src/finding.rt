@@ -6,7 +6,7 @@ ghost use Rattle.refutation_laws.specs.Lines.{answer_in, published_in};
 ghost use Rattle.refutation_laws.specs.MayAnswer.{are_together};
 ghost use Rattle.trace_answers.specs.Answers.{KnowsAnswers, answers_in, are_at_one_line, entry_at, entry_place, reaped_at};
 
-use crate::tables::{EntryCid, EntryNumber, EntryPlace, TraceAnswers};
+use crate::tables::{EntryCid, EntryNumber, EntryPlace, TraceAnswers, count_of};
 use nvme_model::submission::Submission;
 use trace::{ReapedLine, Seen};
 
@@ -42,6 +42,13 @@ fn are_at_one_line(first: Option<EntryPlace>, second: Option<EntryPlace>) -> boo
 }
 
 impl TraceAnswers {
+    /// How many entries are published to a submission queue.
+    pub fn count(&self, queue: u16) -> u64
+        ensures value { result ≡ (answers_in self.now).published queue }
+    {
+        count_of(&self.published, queue)
+    }
+
     /// Where an entry of a submission queue is published.
     pub fn place(&self, queue: u16, number: u64) -> Option<EntryPlace>
         ensures value { result ≡ (answers_in self.now).entries queue number }

@@ -51,8 +51,8 @@ pub struct TraceAnswers {
     pub tidy: bool,
 }
 
-// How many are counted of a queue.
-fn count_of(counts: &HashMap<u16, u64>, queue: u16) -> u64
+/// How many are counted of a queue.
+pub(crate) fn count_of(counts: &HashMap<u16, u64>, queue: u16) -> u64
     ensures value { result ≡ unwrap_or (get nat_eq counts.now queue) 0 }
 {
     counts.get(&queue).copied().unwrap_or(0)
