@@ -20,14 +20,14 @@ fn completion_queue(config: &Config, queue: u16) -> u16
 }
 
 /// Whether a bit is set that this profile leaves zero.
-pub(crate) fn sets_unused_bits(line: &ReapedLine) -> bool
+pub fn sets_unused_bits(line: &ReapedLine) -> bool
     ensures value { result ≡ sets_unused_bits line.now }
 {
     !is_clean(&line.cqe)
 }
 
 /// Whether it names no submission queue that uses its completion queue.
-pub(crate) fn names_wrong_queue(config: &Config, line: &ReapedLine) -> bool
+pub fn names_wrong_queue(config: &Config, line: &ReapedLine) -> bool
     ensures value { result ≡ names_wrong_queue config.now line.now }
 {
     let queue = queue_of(&line.cqe);
@@ -69,7 +69,7 @@ fn is_reaped(line: &Seen, queue: u16) -> bool
 }
 
 /// Whether its phase tag isn't that of the slot that comes next behind these lines.
-pub(crate) fn has_wrong_phase(config: &Config, trace: &[Seen], line: &ReapedLine) -> bool
+pub fn has_wrong_phase(config: &Config, trace: &[Seen], line: &ReapedLine) -> bool
     ensures value { result ≡ has_wrong_phase config.now (reverse trace.now) line.now }
 {
     let slots = config.numbers().cq_size;

@@ -2,9 +2,11 @@
 
 ghost use Rattle.std.specs.Prelude.{◌≡◌, ◌%◌, ◌/◌};
 ghost use Rattle.nvme_model.specs.EntryBytes.{cqe_fields};
+ghost use Rattle.nvme_model.specs.Statuses.{is_success, same_status};
 ghost use Rattle.host_laws.specs.Calls.{cqe_status, is_clean};
 
 use byteorder::{ByteOrder, LittleEndian};
+use nvme_model::status::Status;
 
 fn word_of(cqe: &[u8; 16]) -> u16
     ensures phase { (cqe_fields cqe.now).phase ≡ result % 2 }
@@ -43,11 +45,31 @@ pub(crate) fn phase_of(cqe: &[u8; 16]) -> u16
     word_of(cqe) % 2
 }
 
-/// Status Code Type and Status Code.
-pub(crate) fn status_of(cqe: &[u8; 16]) -> (u16, u16)
-    ensures sct { result.0 ≡ (cqe_status cqe.now).sct }
-    ensures sc { result.1 ≡ (cqe_status cqe.now).sc }
+/// The status.
+pub(crate) fn status_of(cqe: &[u8; 16]) -> Status
+    ensures value { result ≡ cqe_status cqe.now }
 {
     let word = word_of(cqe);
-    ((word / 512) % 8, (word / 2) % 256)
+    Status::new(((word / 512) % 8) as u8, ((word / 2) % 256) as u8)
+}
+
+/// Whether it is success.
+pub(crate) fn is_success(status: Status) -> bool
+    ensures value { result ≡ is_success status }
+{
+    status.sct() == 0 && status.sc() == 0
+}
+
+/// Whether these are one status.
+pub(crate) fn same_status(a: Status, b: Status) -> bool
+    ensures value { result ≡ same_status a b }
+{
+    a.sct() == b.sct() && a.sc() == b.sc()
+}
+
+/// The SQ Head Pointer.
+pub(crate) fn head_of(cqe: &[u8; 16]) -> u16
+    ensures value { result ≡ (cqe_fields cqe.now).sqhd }
+{
+    LittleEndian::read_u16(&cqe[8..10])
 }

@@ -14,7 +14,7 @@ pub(crate) fn no_queue(config: &Config, queue: u16) -> bool
 }
 
 /// Whether no controller takes this Publish.
-pub(crate) fn has_wrong_batch(config: &Config, line: &PublishLine) -> bool
+pub fn has_wrong_batch(config: &Config, line: &PublishLine) -> bool
     ensures value { result ≡ has_wrong_batch config.now line.now }
 {
     let entries = line.batch.as_slice();

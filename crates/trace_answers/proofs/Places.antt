@@ -33,7 +33,7 @@ get_none (x ∷ xs) (suc k) l = get_none xs k (omega arith)
 -- ---- one line more
 
 -- each place is of a line that is there
-within : (trace : List Seen) (q j : ℕ) (p : EntryPlace) → entry_place trace q j ≡ Some p → p.line < length trace
+pub within : (trace : List Seen) (q j : ℕ) (p : EntryPlace) → entry_place trace q j ≡ Some p → p.line < length trace
 within [] q j p e = absurd (let no : None ≡ Some p = e in cc)
 within (Seen.Published b ∷ trace) q j p e =
     by ((b.queue == q) && (nat_le n j && nat_lt j (n + length b.batch))) e (within trace q j p)

@@ -1,11 +1,11 @@
 -- What one more line makes of the tables.
 use Rattle.std.proofs.Common.{Bool, List, None, Option, Some, [], ap, arith, drop, drop-cons, eq-eqb, false, get_or}
-use Rattle.std.proofs.Common.{if◌then◌else◌, length, refl, suc, sym, true, ℕ, ◌&&◌, ◌+◌, ◌++◌, ◌-◌, ◌<◌, ◌≤◌, ◌==◌}
+use Rattle.std.proofs.Common.{if◌then◌else◌, length, length-take, refl, subst, take, suc, sym, true, ℕ, ◌&&◌, ◌+◌, ◌++◌, ◌-◌, ◌<◌, ◌≤◌, ◌==◌, ◌^◌}
 use Rattle.std.proofs.Common.{◌∙◌, ◌∷◌, ◌≡◌}
-use Rattle.std.specs.Prelude.{Err, Ok, OnOk, Result, is_none, nat_le, nat_lt}
+use Rattle.std.specs.Prelude.{Err, Ok, OnOk, Result, is_none, nat_le, nat_lt, reverse}
 use Rattle.std.proofs.lemmas.Bool.{and_from, and_parts, and_right, cond-false, cond-true, eqb-false, eqb-true}
 use Rattle.std.proofs.lemmas.Bool.{false_from_ne_true, le-leb, leb-true, lt-ltb, ltb-true, true≢false}
-use Rattle.std.proofs.lemmas.List.{drop_all, length-append}
+use Rattle.std.proofs.lemmas.List.{drop_all, length-append, length-reverse, reverse-append, take_more}
 use Rattle.nvme_model.specs.EntryBytes.{cqe_fields}
 use Rattle.nvme_model.specs.declared.entry.PublishLine.{PublishLine}
 use Rattle.nvme_model.specs.declared.submission.Submission.{Submission}
@@ -66,6 +66,7 @@ one_placed line q n i o r j = by (q == r) ((n + i) == j) refl
 -- the tables behind i entries of a batch to submission queue q, and what the others will make of them
 pub record Partway (k now : KeptAnswers) (line q : ℕ) (batch : List Submission) (i : ℕ) : Type 0 where
   pub published : (r : ℕ) → now.published r ≡ k.published r + (if q == r then i else 0)
+  pub few : (r : ℕ) → k.published r < 2 ^ 64 → now.published r < 2 ^ 64
   pub entries : (r j : ℕ) → now.entries r j ≡ placed line q (k.published q) i (k.entries r j) r j
   pub waiting : with_batch now.waiting q (now.published q) (drop i batch) ≡ with_batch k.waiting q (k.published q) batch
   pub answers : (r j : ℕ) → now.answers r j ≡ k.answers r j
@@ -76,6 +77,7 @@ pub record Partway (k now : KeptAnswers) (line q : ℕ) (batch : List Submission
 pub none_yet : (k : KeptAnswers) (line q : ℕ) (batch : List Submission) → Partway k k line q batch 0
 none_yet k line q batch = record {
   published = λ r. zero_more (k.published r) (q == r);
+  few = λ r l. l;
   entries = λ r j. none_of_none line q (k.published q) (k.entries r j) r j;
   waiting = refl;
   answers = λ r j. refl;
@@ -101,6 +103,7 @@ pub record AddsOne (old new : KeptAnswers) (line q i : ℕ) (s : Submission) : T
   pub answers : (r j : ℕ) → new.answers r j ≡ old.answers r j
   pub tidy : new.tidy ≡ (old.tidy && is_none (old.waiting q (cid_of s)))
   pub fits : cid_of s < 65536
+  pub few : new.published q < 2 ^ 64
 
 pub one_more : (k old new : KeptAnswers) (line q : ℕ) (batch : List Submission) (i : ℕ) (d : Submission)
     → i < length batch → Partway k old line q batch i → AddsOne old new line q i (get_or batch i d)
@@ -108,6 +111,7 @@ pub one_more : (k old new : KeptAnswers) (line q : ℕ) (batch : List Submission
 one_more k old new line q batch i d l h a = record {
   published = λ r. a.published r ∙ ap (λ n. n + (if q == r then 1 else 0)) (h.published r)
       ∙ add_if (k.published r) i (q == r);
+  few = λ r l. few_by r (q == r) refl (h.few r l);
   entries = λ r j. a.entries r j
       ∙ (λ t. if (q == r) && (so_far t == j) then Some (record { line = line; place = i }) else h.entries r j t)
       ∙ one_placed line q (k.published q) i (k.entries r j) r j;
@@ -137,6 +141,13 @@ one_more k old new line q batch i d l h a = record {
     so_far : old.published q ≡ k.published q + i
     so_far = h.published q ∙ ap (λ b. k.published q + (if b then i else 0)) (same q)
 
+    few_by : (r : ℕ) (b : Bool) → (q == r) ≡ b → old.published r < 2 ^ 64 → new.published r < 2 ^ 64
+    few_by r true e l = subst (λ x. new.published x < 2 ^ 64) (eqb-true q r e) a.few
+    few_by r false e l =
+        let stays : new.published r ≡ old.published r + 0 =
+        a.published r ∙ ap (λ b. old.published r + (if b then 1 else 0)) e in
+        omega arith
+
     add_if : (n i : ℕ) (b : Bool) → (n + (if b then i else 0)) + (if b then 1 else 0) ≡ n + (if b then i + 1 else 0)
     add_if n i true = omega arith
     add_if n i false = omega arith
@@ -153,6 +164,10 @@ pub published_all : (k now : KeptAnswers) (p : PublishLine) (trace : List Seen) 
 published_all k now p trace l h is = record {
   published = λ r. h.published r ∙ ap (λ n. n + (if p.queue == r then length p.batch else 0)) (is.published r)
       ∙ longer (published_in trace r) p.batch (p.queue == r);
+  few = λ r. subst (λ n. n < 2 ^ 64)
+      (h.published r ∙ ap (λ n. n + (if p.queue == r then length p.batch else 0)) (is.published r)
+      ∙ longer (published_in trace r) p.batch (p.queue == r))
+      (h.few r (subst (λ n. n < 2 ^ 64) (sym (is.published r)) (is.few r)));
   entries = λ r j. h.entries r j
       ∙ (λ t. placed (length trace) p.queue (is.published p.queue t) (length p.batch) (is.entries r j t) r j);
   waiting = λ r cid. ap (λ b. b r cid)
@@ -197,6 +212,7 @@ pub reaped : (k now : KeptAnswers) (r : ReapedLine) (trace : List Seen) (o : Opt
     → KnowsAnswers (Seen.Reaped r ∷ trace) now
 reaped k now r trace o e h is = record {
   published = λ q. h.published q ∙ is.published q;
+  few = is.few;
   entries = λ q j. h.entries q j ∙ is.entries q j;
   waiting = λ q i. h.waiting q i
       ∙ ap (λ x. if (q == (cqe_fields r.cqe).sqid) && (i == (cqe_fields r.cqe).cid) then None else x) (is.waiting q i);
@@ -207,3 +223,14 @@ reaped k now r trace o e h is = record {
   where
     same : o ≡ answered trace r.cqe
     same = e ∙ is.waiting (cqe_fields r.cqe).sqid (cqe_fields r.cqe).cid
+
+-- ---- a trace, the oldest line first
+
+-- one line more is the newest
+pub one_line : (xs : List Seen) (i : ℕ) (d : Seen) → i < length xs
+    → get_or xs i d ∷ reverse (take i xs) ≡ reverse (take (i + 1) xs)
+one_line xs i d l = sym (ap reverse (take_more xs i d l) ∙ reverse-append (take i xs) (get_or xs i d ∷ []))
+
+-- its number
+pub line_number : (xs : List Seen) (i : ℕ) → i < length xs → i ≡ length (reverse (take i xs))
+line_number xs i l = omega (arith, length-reverse (take i xs), length-take i xs, l)

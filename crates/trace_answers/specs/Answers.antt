@@ -1,6 +1,6 @@
 -- What tables tell of a trace: its entries, those that wait, and the lines that answer them.
-use Rattle.std.specs.Prelude.{Bool, List, None, Option, Some, [], if◌then◌else◌, length, nat_eq, nat_le, nat_lt}
-use Rattle.std.specs.Prelude.{slice_get, unwrap_or, ℕ, ◌&&◌, ◌+◌, ◌-◌, ◌==◌, ◌∷◌, ◌≡◌}
+use Rattle.std.specs.Prelude.{Bool, List, None, Option, Some, [], false, if◌then◌else◌, is_none, length, nat_eq, nat_le, nat_lt}
+use Rattle.std.specs.Prelude.{slice_get, unwrap_or, ℕ, ◌&&◌, ◌+◌, ◌-◌, ◌<◌, ◌==◌, ◌^◌, ◌∷◌, ◌≡◌}
 use Rattle.std.specs.HashMap.{get, get_by}
 use Rattle.nvme_model.specs.EntryBytes.{cqe_fields}
 use Rattle.nvme_model.specs.declared.submission.Submission.{Submission}
@@ -47,6 +47,12 @@ entry_place (Seen.Published p ∷ trace) q j =
     placed (length trace) p.queue (length (published_in trace p.queue)) (length p.batch) (entry_place trace q j) q j
 entry_place (Seen.Reaped r ∷ trace) q j = entry_place trace q j
 
+-- One line publishes entries at these places; where the second isn't published, neither is the first.
+abbrev pub are_at_one_line : (first second : Option EntryPlace) → Bool
+are_at_one_line first None = is_none first
+are_at_one_line None (Some b) = false
+are_at_one_line (Some a) (Some b) = a.line == b.line
+
 -- the entry at this place of a line
 abbrev pub entry_of : Option Seen → ℕ → Option Submission
 entry_of None place = None
@@ -80,6 +86,7 @@ answer_place (Seen.Reaped r ∷ trace) q j =
 -- It is what a trace, the newest line first, tells of them.
 pub record KnowsAnswers (trace : List Seen) (k : KeptAnswers) : Type 0 where
   pub published : (q : ℕ) → k.published q ≡ length (published_in trace q)
+  pub few : (q : ℕ) → length (published_in trace q) < 2 ^ 64
   pub entries : (q j : ℕ) → k.entries q j ≡ entry_place trace q j
   pub waiting : (q cid : ℕ) → k.waiting q cid ≡ waiting_in trace q cid
   pub answers : (q j : ℕ) → k.answers q j ≡ answer_place trace q j

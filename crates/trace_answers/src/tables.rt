@@ -51,8 +51,8 @@ pub struct TraceAnswers {
     pub tidy: bool,
 }
 
-// How many are counted of a queue.
-fn count_of(counts: &HashMap<u16, u64>, queue: u16) -> u64
+/// How many are counted of a queue.
+pub(crate) fn count_of(counts: &HashMap<u16, u64>, queue: u16) -> u64
     ensures value { result ≡ unwrap_or (get nat_eq counts.now queue) 0 }
 {
     counts.get(&queue).copied().unwrap_or(0)
@@ -62,6 +62,7 @@ fn count_of(counts: &HashMap<u16, u64>, queue: u16) -> u64
 fn add_one(counts: &mut HashMap<u16, u64>, queue: u16) -> Result<(), NoMemory>
     ensures ok { OnOk result ((q : ℕ) →
         unwrap_or (get nat_eq counts.new q) 0 ≡ unwrap_or (get nat_eq counts.old q) 0 + (if queue == q then 1 else 0)) }
+    ensures few { OnOk result (unwrap_or (get nat_eq counts.new queue) 0 < 2 ^ 64) }
 {
     let Some(more) = count_of(counts, queue).checked_add(1) else {
         return Err(NoMemory);
@@ -78,7 +79,8 @@ fn short_fits(number: u16)
 }
 
 impl TraceAnswers {
-    fn new(alloc: Global) -> TraceAnswers
+    /// The tables of no lines.
+    pub fn new(alloc: Global) -> TraceAnswers
         ensures knows { KnowsAnswers [] (answers_in result) }
     {
         TraceAnswers {
@@ -108,6 +110,7 @@ impl TraceAnswers {
         ensures tidy { OnOk result ((answers_in self.new).tidy ≡
             ((answers_in self.old).tidy && is_none ((answers_in self.old).waiting queue (cid_of entry.now)))) }
         ensures fits { cid_of entry.now < 2 ^ 16 }
+        ensures few { OnOk result ((answers_in self.new).published queue < 2 ^ 64) }
     {
         let cid = cid_of(entry);
         let number = count_of(&self.published, queue);
@@ -171,7 +174,12 @@ impl TraceAnswers {
         }
     }
 
-    fn take(&mut self, line: &Seen, place: usize) -> Result<(), NoMemory>
+    /// Takes the next line, which has this number, from 0.
+    ///
+    /// # Errors
+    ///
+    /// `NoMemory` alone; the tables are then of no use.
+    pub fn take(&mut self, line: &Seen, place: usize) -> Result<(), NoMemory>
         ensures { (trace : List Seen) → KnowsAnswers trace (answers_in self.old) → place ≡ length trace →
             OnOk result (KnowsAnswers (line.now ∷ trace) (answers_in self.new)) }
     {

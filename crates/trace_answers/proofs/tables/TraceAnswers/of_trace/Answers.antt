@@ -4,12 +4,8 @@ use Rattle.std.specs.Prelude.{reverse}
 use Rattle.std.proofs.lemmas.List.{length-reverse, reverse-append, take_more}
 use Rattle.trace.specs.declared.seen.Seen.{Seen}
 use Rattle.trace_answers.specs.Answers.{KnowsAnswers, answers_in}
+use Rattle.trace_answers.proofs.Steps.{one_line}
 use Rattle.trace_answers.proofs.tables.TraceAnswers.of_trace.Goals as goal
-
--- one line more is the newest
-one_line : (xs : List Seen) (i : ℕ) (d : Seen) → i < length xs
-    → get_or xs i d ∷ reverse (take i xs) ≡ reverse (take (i + 1) xs)
-one_line xs i d l = sym (ap reverse (take_more xs i d l) ∙ reverse-append (take i xs) (get_or xs i d ∷ []))
 
 pub loop-place-preserved : goal.loop-place-preserved
 loop-place-preserved c =

@@ -23,6 +23,7 @@ loop-place-preserved c =
       answers = c.in_ok-publish_one.ensures.answers;
       tidy = c.in_ok-publish_one.ensures.tidy;
       fits = c.in_ok-publish_one.ensures.fits;
+      few = c.in_ok-publish_one.ensures.few;
     } in (
       one_more k old new line q batch i d low c.loop-place.invariant.0 (subst (AddsOne old new line q i) same adds),
       items,
