@@ -12,11 +12,13 @@
 mod error;
 mod host;
 mod queue;
+mod slots;
 mod trace;
 
 pub use error::{Error, Result};
 pub use host::{Dial, Host};
 pub use queue::{Answer, Queue};
+pub use slots::{Area, Holder, Name};
 pub use trace::{Trace, TraceOfQueue};
 pub use vandrexu_wire::{
     BLOCK, Command, Completion, DISCOVERY, Format, Status, fabrics, kind, opcode, u16_at, u32_at, u64_at,
