@@ -154,6 +154,11 @@ fn hostile(dial: &Dial, random: &mut Random) -> Option<Queue> {
     Some(queue)
 }
 
+/// How many threads this process has.
+fn threads() -> usize {
+    std::fs::read_dir("/proc/self/task").expect("threads").count()
+}
+
 /// Sends so many PDUs by chance; how many were sent.
 fn attack(dial: &Dial, seed: u64, count: u64) -> u64 {
     let mut random = Random(seed | 1);
@@ -182,7 +187,7 @@ fn broken_pdus_disturb_nobody_else() {
     let seed = due("VANDREXU_SEED", 20_261_130);
     let target = start(Options { connections: 1000, ..options() });
     let dial = dial(&target);
-    let is_over = AtomicBool::new(false);
+    let (is_over, threads) = (AtomicBool::new(false), threads());
     let began = Instant::now();
     std::thread::scope(|scope| {
         let peaceful = scope.spawn(|| {
@@ -217,6 +222,12 @@ fn broken_pdus_disturb_nobody_else() {
         std::thread::sleep(Duration::from_millis(20));
     }
     assert_eq!(target.connections(), 0);
+    let began = Instant::now();
+    while self::threads() > threads + 8 && began.elapsed() < Duration::from_secs(20) {
+        std::thread::sleep(Duration::from_millis(20));
+    }
+    // (other tests have threads, too)
+    assert!(self::threads() <= threads + 8, "{} threads, and {threads} before", self::threads());
     let mut host = Host::connect(&dial, 16).expect("a host");
     assert_eq!(host.queues.len(), 16);
     assert_eq!(write(&mut host, 0, &blocks(5, 1)), DONE);

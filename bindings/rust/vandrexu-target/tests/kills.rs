@@ -12,15 +12,23 @@ use std::time::Duration;
 use vandrexu_initiator::{BLOCK, Command, Dial, Host, Queue, opcode, u64_at};
 
 /// How many blocks a unit has, and how many units there are.
-const UNIT: usize = 8;
-const UNITS: u64 = 24;
+const UNIT: usize = 128;
+const UNITS: u64 = 7;
 
 struct Running(Child, SocketAddr);
 
 impl Running {
     fn start(image: &Path) -> Running {
         let mut child = Process::new(env!("CARGO_BIN_EXE_vandrexu-target"))
-            .args(["--listen", "127.0.0.1:0", "--config", "config 1024 7 7 0 0 4 64 64 64", "--seed", "3", "--image"])
+            .args([
+                "--listen",
+                "127.0.0.1:0",
+                "--config",
+                "config 1024 127 127 0 0 4 64 64 64",
+                "--seed",
+                "3",
+                "--image",
+            ])
             .arg(image)
             .stderr(Stdio::piped())
             .spawn()
@@ -35,6 +43,11 @@ impl Running {
         self.0.kill().expect("killed");
         self.0.wait().expect("ended");
     }
+}
+
+/// The first block of a unit: units begin within a page, so no page is written as one.
+fn first_of(unit: usize) -> u64 {
+    (unit * UNIT + 3) as u64
 }
 
 /// A unit of blocks that all hold its number.
@@ -60,7 +73,7 @@ fn write_on(mut queue: Queue, known: &mut [Known], next: &mut u64, random: &mut 
         let it = &mut known[at];
         *next += 1;
         it.open.push(*next);
-        let slba = (at * UNIT) as u64;
+        let slba = first_of(at);
         let answer = if random.below(2) == 0 {
             let done = queue.call(Command::blocks(opcode::WRITE, slba, UNIT), &unit(*next), 0);
             done.map(|it| it.is_success())
@@ -78,7 +91,7 @@ fn write_on(mut queue: Queue, known: &mut [Known], next: &mut u64, random: &mut 
 /// What is there now: each unit whole, and none older than what was told as done.
 fn look(queue: &mut Queue, known: &mut [Known]) {
     for (at, it) in known.iter_mut().enumerate() {
-        let command = Command::blocks(opcode::READ, (at * UNIT) as u64, UNIT);
+        let command = Command::blocks(opcode::READ, first_of(at), UNIT);
         let found = queue.call(command, &[], UNIT * BLOCK).expect("an answer").data;
         let number = u64_at(&found, 0);
         assert!(found == unit(number), "unit {at} is torn");
@@ -101,7 +114,7 @@ fn an_image_survives_kills_at_any_moment() {
             running.kill();
             break;
         }
-        let wait = Duration::from_micros(random.next() % 30_000);
+        let wait = Duration::from_micros(random.next() % 120_000);
         let (go, going) = channel();
         let killer = thread::spawn(move || {
             going.recv().expect("a word");
