@@ -90,7 +90,7 @@ fn until_held(scene: &Scene, by: &str) {
 }
 
 fn sleeper(scene: &Scene) -> Child {
-    let words = ["--slot", "2", "--host", "5", "--", "sleep", "0.6"];
+    let words = ["--slot", "2", "--host", "5", "--", "sleep", "3"];
     scene.program(&words).stdout(Stdio::null()).spawn().expect("the program")
 }
 

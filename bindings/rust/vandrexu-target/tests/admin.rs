@@ -1,6 +1,6 @@
 //! Each Fabrics and admin command.
 mod common;
-use common::{DONE, code, dial, host, options, start};
+use common::{DONE, code, dial, host, options, start, until};
 use vandrexu_initiator::{Command, Dial, Error, Host, Queue, Status, fabrics, opcode, u16_at, u32_at, u64_at};
 use vandrexu_target::Options;
 
@@ -77,7 +77,7 @@ fn a_host_that_asks_for_more_queues_than_there_are_gets_fewer() {
     let third = Host::connect(&dial(&target).named("third"), 1);
     assert!(matches!(third, Err(Error::Refused(it, _)) if it.is(Status::CONNECT_BUSY)), "{third:?}");
     drop(first);
-    std::thread::sleep(std::time::Duration::from_millis(500));
+    until("the first left", || target.connections() == 7);
     assert_eq!(Host::connect(&dial(&target).named("third"), 12).unwrap().queues.len(), 10);
 }
 

@@ -1,7 +1,7 @@
 //! PDUs that are broken, by a seed: nothing panics, and other hosts are undisturbed. VANDREXU_PDUS says how many there are,
 //! and VANDREXU_SEED gives another seed.
 mod common;
-use common::{DONE, Random, blocks, code, dial, options, read, start, write};
+use common::{DONE, Random, blocks, code, dial, options, read, start, until, write};
 use std::io::{ErrorKind, Read, Write};
 use std::net::TcpStream;
 use std::sync::atomic::{AtomicBool, Ordering};
@@ -217,17 +217,9 @@ fn broken_pdus_disturb_nobody_else() {
         eprintln!("{sent} PDUs in {:?}, seed {seed}; beside them {rounds} rounds", began.elapsed());
     });
     // all that is left is the target, and it serves
-    let patience = Instant::now();
-    while target.connections() > 0 && patience.elapsed() < Duration::from_secs(20) {
-        std::thread::sleep(Duration::from_millis(20));
-    }
-    assert_eq!(target.connections(), 0);
-    let began = Instant::now();
-    while self::threads() > threads + 8 && began.elapsed() < Duration::from_secs(20) {
-        std::thread::sleep(Duration::from_millis(20));
-    }
+    until("all connections end", || target.connections() == 0);
     // (other tests have threads, too)
-    assert!(self::threads() <= threads + 8, "{} threads, and {threads} before", self::threads());
+    until("all threads end", || self::threads() <= threads + 8);
     let mut host = Host::connect(&dial, 16).expect("a host");
     assert_eq!(host.queues.len(), 16);
     assert_eq!(write(&mut host, 0, &blocks(5, 1)), DONE);

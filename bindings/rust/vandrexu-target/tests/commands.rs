@@ -77,7 +77,8 @@ fn hints_are_cleared_unless_the_target_is_strict() {
 fn a_pair_in_two_capsules_is_one_unit() {
     let folder = Folder::new();
     let history = folder.file("history");
-    let target = start(Options { history: Some(history.clone()), ..options() });
+    let pair_wait = Duration::from_secs(30);
+    let target = start(Options { history: Some(history.clone()), pair_wait, ..options() });
     let mut host = host(&target, 1);
     let queue = &mut host.queues[0];
     assert!(queue.compare_and_write(9, &blocks(0, 1), &blocks(1, 1)).unwrap());

@@ -53,8 +53,9 @@ fn work(queues: &mut [Queue]) -> Result<()> {
 fn see(options: Options) -> (bool, bool) {
     let folder = Folder::new();
     let trace = folder.file("trace");
+    let loses = options.fault.is_some_and(|it| it.kind == FaultKind::LostCompletion);
     let target = start(Options { trace: Some(trace.clone()), seed: Some(5), ..options });
-    let patient = Dial { patience: Duration::from_secs(2), ..dial(&target) };
+    let patient = Dial { patience: Duration::from_secs(if loses { 2 } else { 60 }), ..dial(&target) };
     let mut host = Host::connect(&patient, 2).expect("a host");
     let is_done = work(&mut host.queues).is_ok();
     drop(host);

@@ -2,7 +2,8 @@
 #![allow(dead_code, reason = "no test uses all of it")]
 use std::path::{Path, PathBuf};
 use std::sync::atomic::{AtomicU32, Ordering};
-use std::{env, fs, process};
+use std::time::{Duration, Instant};
+use std::{env, fs, process, thread};
 use vandrexu::Error;
 use vandrexu_initiator::{Answer, BLOCK, Command, Dial, Host, opcode};
 use vandrexu_target::{Config, Options, Target};
@@ -87,6 +88,15 @@ pub fn is_explained(trace: &Path) -> bool {
         Ok(_) => true,
         Err(it) if it.error == Error::NotExplained => false,
         Err(it) => panic!("{it}: {}", String::from_utf8_lossy(&it.text)),
+    }
+}
+
+/// Waits until something is so, on a machine that may do much else.
+pub fn until(what: &str, mut is_so: impl FnMut() -> bool) {
+    let began = Instant::now();
+    while !is_so() {
+        assert!(began.elapsed() < Duration::from_secs(30), "not so: {what}");
+        thread::sleep(Duration::from_millis(20));
     }
 }
 
