@@ -149,6 +149,34 @@ impl Queue {
         Ok(named.iter().map(|(it, _)| it.cid()).collect())
     }
 
+    /// Sends a capsule with the data descriptor that its entry has, right or wrong, and gives its CID; for tests of targets.
+    /// Where the target asks for data it gets the second.
+    ///
+    /// # Errors
+    /// A failed connection.
+    pub fn send_as_it_is(&mut self, command: Command, inside: &[u8], asked: &[u8]) -> Result<u16> {
+        let (cid, mut command) = (self.free_cid(), command);
+        put16(&mut command.0, 2, cid);
+        self.sent.insert(cid, Sent { command, data: asked.to_vec(), read: vec![0; LIMIT] });
+        self.to.write_all(&self.format.command(&command.0, inside))?;
+        Ok(cid)
+    }
+
+    /// Waits for an R2T and gives its tag, and leaves it unanswered; for tests of targets.
+    ///
+    /// # Errors
+    /// As those of `receive`.
+    pub fn receive_tag(&mut self) -> Result<u16> {
+        let pdu = next(&mut self.from)?;
+        if pdu.kind() == kind::R2T { Ok(u16_at(pdu.header(), 10)) } else { Err(unexpected(&pdu)) }
+    }
+
+    /// How this queue's PDUs are made.
+    #[must_use]
+    pub fn format(&self) -> Format {
+        self.format
+    }
+
     /// A capsule with the data descriptor of a transport: data in the capsule where it fits, else by R2T.
     fn capsule(&self, command: Command, data: &[u8], room: usize) -> Vec<u8> {
         let inside = !data.is_empty() && data.len() <= self.in_capsule;

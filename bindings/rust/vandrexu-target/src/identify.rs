@@ -113,6 +113,8 @@ impl Asked<'_> {
         out[77] = MDTS;
         put16(&mut out, 78, self.controller);
         put32(&mut out, 80, VERSION);
+        // Host Identifiers of 128 bits
+        put32(&mut out, 96, 1);
         (out[259], out[261], out[262]) = (EVENTS_HELD as u8 - 1, PAGES_TOLD, 0);
         // keep alive in seconds
         put16(&mut out, 320, 10);

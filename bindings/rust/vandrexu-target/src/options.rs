@@ -136,7 +136,10 @@ impl Options {
         match name {
             "--listen" => self.listen = address(&value)?,
             "--nqn" if (1..=223).contains(&value.len()) => self.subsystem = value,
-            "--config" => self.config = Config::of_line(&value).map_err(|it| format!("--config: {it}"))?,
+            "--config" => {
+                let wanted = "no configuration line, as 'config 65536 7 7 0 0 16 256 256 256'";
+                self.config = Config::of_line(&value).map_err(|_| format!("--config {value}: {wanted}"))?;
+            }
             "--image" => self.image = Some(value.into()),
             "--history" => self.history = Some(value.into()),
             "--trace" => self.trace = Some(value.into()),

@@ -109,6 +109,55 @@ fn a_wrong_digest_of_a_header_ends_the_connection_and_one_of_data_the_command() 
     assert!(matches!(host.queues[0].receive(), Err(Error::Ended(3, _))));
 }
 
+/// A Write of two blocks, whose data is to be asked for.
+fn asking() -> Command {
+    let mut it = Command::blocks(opcode::WRITE, 3, 2).with(8, 1024);
+    (it.0[1], it.0[39]) = (0x40, 0x5A);
+    it
+}
+
+#[test]
+fn data_that_isnt_what_was_asked_for_ends_the_connection() {
+    let target = start(options());
+    // (what is wrong, the PDU by CID and tag, the status and the offset that are told)
+    type Case = (&'static str, fn(u16, u16, Format) -> Vec<u8>, u16, u32);
+    let cases: &[Case] = &[
+        ("another command", |cid, tag, it| it.data(kind::H2C_DATA, cid + 1, tag, 0, &[1; 1024], true), 1, 8),
+        ("another tag", |cid, tag, it| it.data(kind::H2C_DATA, cid, tag + 1, 0, &[1; 1024], true), 1, 10),
+        ("an offset", |cid, tag, it| it.data(kind::H2C_DATA, cid, tag, 512, &[1; 512], true), 4, 0),
+        ("too much", |cid, tag, it| it.data(kind::H2C_DATA, cid, tag, 0, &[1; 1536], true), 4, 0),
+        ("the last too early", |cid, tag, it| it.data(kind::H2C_DATA, cid, tag, 0, &[1; 512], true), 4, 0),
+        ("no data at all", |cid, tag, it| it.data(kind::H2C_DATA, cid, tag, 0, &[], false), 4, 0),
+    ];
+    for (what, pdu, status, offset) in cases {
+        let mut host = Host::connect(&dial(&target), 1).unwrap();
+        let queue = &mut host.queues[0];
+        let cid = queue.send_as_it_is(asking(), &[], &[]).unwrap();
+        let tag = queue.receive_tag().unwrap();
+        queue.send_bytes(&pdu(cid, tag, queue.format())).unwrap();
+        let ended = queue.receive();
+        assert!(matches!(ended, Err(Error::Ended(a, b)) if (a, b) == (*status, *offset)), "{what}: {ended:?}");
+    }
+}
+
+#[test]
+fn a_wrong_digest_of_data_that_was_asked_for_fails_the_command() {
+    let target = start(options());
+    let mut host = Host::connect(&Dial { data_digest: true, ..dial(&target) }, 1).unwrap();
+    let queue = &mut host.queues[0];
+    for is_wrong in [true, false] {
+        let cid = queue.send_as_it_is(asking(), &[], &[]).unwrap();
+        let tag = queue.receive_tag().unwrap();
+        let first = queue.format().data(kind::H2C_DATA, cid, tag, 0, &[1; 512], false);
+        let mut second = queue.format().data(kind::H2C_DATA, cid, tag, 512, &[1; 512], true);
+        second[100] ^= u8::from(is_wrong);
+        queue.send_bytes(&[first, second].concat()).unwrap();
+        let answer = queue.receive().unwrap();
+        assert_eq!(code(&answer), if is_wrong { (0, 0x22) } else { DONE });
+        assert!(!answer.status().is_final());
+    }
+}
+
 /// A PDU by chance, some of it as a host would send it.
 fn random_pdu(random: &mut Random, format: &Format) -> Vec<u8> {
     let opcodes = [0x7F, 0x7F, 0, 1, 2, 5, 6, 8, 9, 10, 12, 0x18];

@@ -20,8 +20,10 @@ fn what_is_written_is_read_in_the_capsule_and_by_r2t() {
 #[test]
 fn digests_and_alignment_are_kept() {
     let target = start(options());
-    for (header_digest, data_digest, alignment) in [(true, false, 4), (false, true, 16), (true, true, 128)] {
-        let mut host = Host::connect(&Dial { header_digest, data_digest, alignment, ..dial(&target) }, 1).unwrap();
+    let ways = [(true, false, 4, 8192), (false, true, 16, 512), (true, true, 128, 0), (false, false, 64, 0)];
+    for (header_digest, data_digest, alignment, in_capsule) in ways {
+        let mine = Dial { header_digest, data_digest, alignment, in_capsule, ..dial(&target) };
+        let mut host = Host::connect(&mine, 1).unwrap();
         for count in [1, 16, 100] {
             let data: Vec<u8> = (0..count * BLOCK).map(|it| (it * 13 % 241) as u8).collect();
             assert_eq!(write(&mut host, 5, &data), DONE);
@@ -146,6 +148,15 @@ fn heads_on_the_wire_count_the_entries_of_the_hosts_own_queue() {
     }
 }
 
+/// Eight blocks that hold this number, and no others do.
+fn unlike(number: u64) -> Vec<u8> {
+    let mut out = blocks(0, 8);
+    for (at, block) in out.chunks_mut(BLOCK).enumerate() {
+        block[..8].copy_from_slice(&(number * 8 + at as u64 + 1).to_le_bytes());
+    }
+    out
+}
+
 #[test]
 fn commands_in_flight_end_in_another_order_by_a_seed_and_all_is_explained() {
     let folder = Folder::new();
@@ -154,10 +165,10 @@ fn commands_in_flight_end_in_another_order_by_a_seed_and_all_is_explained() {
     let target = start(Options { history: asked, trace: seen, seed: Some(7), ..options() });
     let mut host = host(&target, 2);
     let (mut in_order, mut last) = (true, [0; 2]);
-    for round in 0..40u8 {
+    for round in 0..20u64 {
         for (at, queue) in host.queues.iter_mut().enumerate() {
             for slba in 0..8 {
-                let data = blocks(round.wrapping_mul(8).wrapping_add(slba as u8 + at as u8), 8);
+                let data = unlike(round * 16 + slba * 2 + at as u64);
                 queue.send(Command::blocks(opcode::WRITE, slba * 4, 8), &data, 0).unwrap();
                 queue.send(Command::blocks(opcode::READ, slba * 4, 8), &[], 8 * BLOCK).unwrap();
             }
@@ -196,4 +207,30 @@ fn queues_come_and_go_and_leave_nothing() {
     assert_eq!(host.queues.len(), 16);
     assert_eq!(write(&mut host, 1, &blocks(9, 1)), DONE);
     assert_eq!(read(&mut host, 1, 1), blocks(9, 1));
+}
+
+/// A Write of one block, with this data descriptor.
+fn described(kind: u8, offset: u8, length: u32) -> Command {
+    let mut it = Command::blocks(opcode::WRITE, 3, 1).with(8, length);
+    (it.0[1], it.0[24], it.0[39]) = (0x40, offset, kind);
+    it
+}
+
+#[test]
+fn data_descriptors_are_followed_or_refused_by_their_status() {
+    let target = start(options());
+    let mut host = host(&target, 1);
+    let queue = &mut host.queues[0];
+    let mut status = |command: Command, inside: &[u8]| {
+        queue.send_as_it_is(command, inside, &blocks(9, 1)).unwrap();
+        code(&queue.receive().unwrap())
+    };
+    assert_eq!(status(described(0x01, 0, 512), &blocks(1, 1)), DONE);
+    assert_eq!(status(described(0x01, 8, 512), &[&[0; 8][..], &blocks(2, 1)].concat()), DONE);
+    assert_eq!(status(described(0x01, 8, 512), &blocks(3, 1)), (0, 0x0F), "less in the capsule");
+    assert_eq!(status(described(0x01, 200, 512), &[0; 100]), (0, 0x16), "the offset lies behind");
+    assert_eq!(status(described(0x00, 0, 512), &[]), (0, 0x11), "a type that a target can't have");
+    assert_eq!(status(described(0x5A, 0, 512), &[]), DONE, "by R2T");
+    assert_ne!(status(described(0x5A, 0, 1 << 30), &[]), DONE, "more than any command has: it isn't asked for");
+    assert_eq!(read(&mut host, 3, 1), blocks(9, 1));
 }
