@@ -1,6 +1,10 @@
 //! The program against a target: commands of one slot never run at once, and a slot of a host that was killed is taken over.
+use std::collections::HashSet;
+use std::os::unix::process::CommandExt;
 use std::path::{Path, PathBuf};
 use std::process::{Child, Command, Output, Stdio};
+use std::sync::Mutex;
+use std::sync::atomic::{AtomicU32, Ordering};
 use std::time::{Duration, Instant};
 use std::{env, fs, process, thread};
 use vandrexu_target::{Options, Target};
@@ -121,6 +125,88 @@ fn who_lost_its_slot_is_told() {
     // (host 5 isn't fenced at all: this is what must not be done)
     assert_eq!(scene.ran(&["take-over", "--slot", "2", "--host", "6", "--from", "5", "--fenced"]).0, 0);
     assert_eq!(slow.wait().expect("ended").code(), Some(1));
+}
+
+/// A host with its command, in a process group of its own, so that killing it fences both.
+fn host_of(scene: &Scene, slot: &str, host: &str) -> Child {
+    let script = scene.alone(slot.parse().expect("a number"));
+    let words = ["--slot", slot, "--host", host, "--wait", "2", "--", "sh", "-c", &script];
+    let mut program = scene.program(&words);
+    program.process_group(0).stdout(Stdio::null()).stderr(Stdio::null()).spawn().expect("the program")
+}
+
+/// Whoever of the dead holds a slot, told by `status`.
+fn dead_holders(scene: &Scene, dead: &Mutex<HashSet<u32>>) -> Vec<(String, u32)> {
+    let told = scene.ran(&["status"]).1;
+    let holder = |line: &str| {
+        let (slot, rest) = line.strip_prefix("slot ")?.split_once(": host ")?;
+        let host = rest.split_once(',')?.0.parse().ok()?;
+        dead.lock().expect("a lock").contains(&host).then(|| (slot.to_string(), host))
+    };
+    told.lines().filter_map(holder).collect()
+}
+
+/// Takes over what the dead hold; a slot that another survivor took first is left.
+fn bury(scene: &Scene, dead: &Mutex<HashSet<u32>>, numbers: &AtomicU32) {
+    for (slot, from) in dead_holders(scene, dead) {
+        let (from, me) = (from.to_string(), numbers.fetch_add(1, Ordering::Relaxed).to_string());
+        let tidy = format!("rmdir {} 2> /dev/null; exit 0", scene.folder.join(format!("held-{slot}")).display());
+        let words = ["take-over", "--slot", &slot, "--host", &me, "--from", &from, "--fenced", "--", "sh", "-c", &tidy];
+        let (status, _, told) = scene.ran(&words);
+        assert!(status == 0 || status == 1 && told.contains("doesn't hold"), "{status}: {told}");
+    }
+}
+
+/// One machine, whose hosts claim slots and are killed now and then; how often a command ran, and how many were killed.
+fn machine(scene: &Scene, seed: u32, end: Instant, dead: &Mutex<HashSet<u32>>, numbers: &AtomicU32) -> (u32, u32) {
+    let (mut random, mut ran, mut killed) = (seed * 77 + 1, 0, 0);
+    let mut below = |count: u32| {
+        random = random.wrapping_mul(1_664_525).wrapping_add(1_013_904_223);
+        (random >> 16) % count
+    };
+    while Instant::now() < end {
+        let number = numbers.fetch_add(1, Ordering::Relaxed);
+        let mut host = host_of(scene, &below(4).to_string(), &number.to_string());
+        if below(4) == 0 {
+            thread::sleep(Duration::from_millis(below(40).into()));
+            // (all of its process group, and so the command, too)
+            let group = format!("-{}", host.id());
+            Command::new("kill").args(["-9", "--", &group]).stderr(Stdio::null()).status().expect("kill");
+            host.wait().expect("ended");
+            dead.lock().expect("a lock").insert(number);
+            killed += 1;
+        } else {
+            match host.wait().expect("ended").code() {
+                Some(7) => ran += 1,
+                // (it waited in vain: a dead host may hold the slot)
+                Some(1) => {}
+                other => panic!("host {number}: {other:?}"),
+            }
+        }
+        bury(scene, dead, numbers);
+    }
+    (ran, killed)
+}
+
+#[test]
+fn hosts_race_while_others_are_killed_and_taken_over() {
+    let seconds = env::var("VANDREXU_SECONDS").ok().and_then(|it| it.parse().ok()).unwrap_or(4);
+    let scene = Scene::new("kills");
+    let (dead, numbers) = (Mutex::new(HashSet::new()), AtomicU32::new(1));
+    let end = Instant::now() + Duration::from_secs(seconds);
+    let done: Vec<(u32, u32)> = thread::scope(|scope| {
+        let (scene, dead, numbers) = (&scene, &dead, &numbers);
+        let all: Vec<_> = (0..8).map(|it| scope.spawn(move || machine(scene, it, end, dead, numbers))).collect();
+        all.into_iter().map(|it| it.join().expect("a machine")).collect()
+    });
+    let began = Instant::now();
+    while scene.ran(&["status"]).1.contains("host") && began.elapsed() < Duration::from_secs(20) {
+        bury(&scene, &dead, &numbers);
+    }
+    assert!(!scene.ran(&["status"]).1.contains("host"));
+    let sum = |it: fn(&(u32, u32)) -> u32| done.iter().map(it).sum::<u32>();
+    eprintln!("{} commands ran, {} hosts were killed", sum(|it| it.0), sum(|it| it.1));
+    assert!(sum(|it| it.0) > 0 && sum(|it| it.1) > 0);
 }
 
 #[test]

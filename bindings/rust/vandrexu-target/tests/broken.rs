@@ -230,35 +230,30 @@ fn attack(dial: &Dial, seed: u64, count: u64) -> u64 {
     sent
 }
 
+/// A host that writes and reads until the others are done; how often it did.
+fn live_in_peace(dial: &Dial, is_over: &AtomicBool) -> u64 {
+    let mut host = Host::connect(&dial.clone().named("nqn.peaceful"), 2).expect("a host");
+    let mut rounds = 0u64;
+    while !is_over.load(Ordering::Relaxed) || rounds < 100 {
+        // (what the others write may lie anywhere; a status of success is what is promised)
+        assert_eq!(write(&mut host, 4000, &blocks(rounds as u8, 8)), DONE);
+        assert_eq!(read(&mut host, 4000, 8).len(), 8 * 512);
+        rounds += 1;
+    }
+    rounds
+}
+
 #[test]
 fn broken_pdus_disturb_nobody_else() {
     let pdus = due("VANDREXU_PDUS", 100_000);
     let seed = due("VANDREXU_SEED", 20_261_130);
     let target = start(Options { connections: 1000, ..options() });
     let dial = dial(&target);
-    let (is_over, threads) = (AtomicBool::new(false), threads());
-    let began = Instant::now();
+    let (is_over, threads, began) = (AtomicBool::new(false), threads(), Instant::now());
     std::thread::scope(|scope| {
-        let peaceful = scope.spawn(|| {
-            let mut host = Host::connect(&dial.clone().named("nqn.peaceful"), 2).expect("a host");
-            let mut rounds = 0u64;
-            while !is_over.load(Ordering::Relaxed) || rounds < 100 {
-                let mine = blocks(rounds as u8, 8);
-                // (what the others write may lie anywhere; a status of success is what is promised)
-                assert_eq!(write(&mut host, 4000, &mine), DONE);
-                assert_eq!(read(&mut host, 4000, 8).len(), mine.len());
-                rounds += 1;
-            }
-            rounds
-        });
-        let attackers: Vec<_> = (0..4)
-            .map(|at| {
-                scope.spawn({
-                    let dial = dial.clone();
-                    move || attack(&dial, seed + at * 2, pdus / 4)
-                })
-            })
-            .collect();
+        let (dial, is_over) = (&dial, &is_over);
+        let peaceful = scope.spawn(move || live_in_peace(dial, is_over));
+        let attackers = [0, 2, 4, 6].map(|at| scope.spawn(move || attack(dial, seed + at, pdus / 4)));
         let sent: u64 = attackers.into_iter().map(|it| it.join().expect("an attacker")).sum();
         is_over.store(true, Ordering::Relaxed);
         let rounds = peaceful.join().expect("the peaceful host");
