@@ -1,11 +1,13 @@
 //! The program vandrexu-lock: what flock(1) is for one machine, for machines that share a disk over NVMe/TCP. A lock is a
 //! slot (docs/SLOTS.md): one block of the disk, claimed and released by fused Compare and Write alone. Nothing here is
 //! proved.
+mod signals;
 mod words;
 
+use std::os::unix::process::ExitStatusExt;
 use std::process::{Command, ExitCode};
-use std::thread;
 use std::time::{Duration, Instant, SystemTime};
+use std::{io, thread};
 use vandrexu_initiator::{Dial, Error, Holder, Host, Name, Result};
 use words::{Task, USAGE, Words};
 
@@ -115,17 +117,22 @@ fn take_over(mut host: Host, words: &Words, from: u32) -> Result<u8> {
     Ok(NOT_GOT)
 }
 
+/// Runs a command: its exit status, or 128 and the signal that ended it, as shells say it.
+fn ran(command: &mut Command) -> io::Result<u8> {
+    signals::leave_to(command);
+    let status = command.status()?;
+    let told = status.code().or(status.signal().map(|it| 128 + it));
+    Ok(told.map_or(FAILED, |it| it as u8))
+}
+
 /// Runs the command, and releases the slot, whatever came of it.
 fn hold(host: Host, words: &Words, block: u64, name: Name) -> Result<u8> {
     let ended = match words.command.split_first() {
         None => 0,
-        Some((program, rest)) => match Command::new(program).args(rest).status() {
-            Ok(status) => status.code().map_or(FAILED, |it| it as u8),
-            Err(error) => {
-                eprintln!("vandrexu-lock: {program}: {error}");
-                FAILED
-            }
-        },
+        Some((program, rest)) => ran(Command::new(program).args(rest)).unwrap_or_else(|error| {
+            eprintln!("vandrexu-lock: {program}: {error}");
+            FAILED
+        }),
     };
     if release(host, words, block, name)? {
         return Ok(ended);

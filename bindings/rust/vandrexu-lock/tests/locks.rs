@@ -118,6 +118,20 @@ fn a_slot_of_a_host_that_was_killed_is_taken_over() {
 }
 
 #[test]
+fn an_interrupt_ends_the_command_and_the_slot_is_released() {
+    let scene = Scene::new("interrupt");
+    let words = ["--slot", "2", "--host", "5", "--", "sleep", "60"];
+    let mut host = scene.program(&words).process_group(0).spawn().expect("the program");
+    until_held(&scene, "slot 2: host 5,");
+    // (held a moment before the command runs)
+    thread::sleep(Duration::from_millis(500));
+    let group = format!("-{}", host.id());
+    assert!(Command::new("kill").args(["-INT", "--", &group]).status().expect("kill").success());
+    assert_eq!(host.wait().expect("ended").code(), Some(130));
+    assert!(scene.ran(&["status"]).1.contains("slot 2: free"));
+}
+
+#[test]
 fn who_lost_its_slot_is_told() {
     let scene = Scene::new("lost");
     let mut slow = sleeper(&scene);
