@@ -89,6 +89,15 @@ impl Queue {
     /// # Errors
     /// A failed connection.
     pub fn connect(&mut self, dial: &Dial, qid: u16, controller: u16) -> Result<Answer> {
+        self.send_connect(dial, qid, controller)?;
+        self.receive()
+    }
+
+    /// Sends Connect, and waits for nothing.
+    ///
+    /// # Errors
+    /// A failed connection.
+    pub fn send_connect(&mut self, dial: &Dial, qid: u16, controller: u16) -> Result<u16> {
         let mut data = [0; 1024];
         data[..16].copy_from_slice(&dial.identifier());
         put16(&mut data, 16, controller);
@@ -98,7 +107,7 @@ impl Queue {
         put16(&mut command.0, 42, qid);
         put16(&mut command.0, 44, dial.slots - 1);
         put32(&mut command.0, 48, dial.keep_alive);
-        self.call(command, &data, 0)
+        self.send(command, &data, 0)
     }
 
     /// Sends bytes as they are, for tests of targets.

@@ -38,8 +38,8 @@ impl Engine {
             loop {
                 match self.disk.reap(queue) {
                     Ok(reaped) => self.completed(queue, reaped)?,
-                    Err(Error::NoCompletion | Error::NoMemory) => break,
-                    Err(other) => return Err(other.into()),
+                    Err(Error::NoCompletion) => break,
+                    Err(other) => return Ok(self.lacking(other)?),
                 }
             }
         }

@@ -119,17 +119,22 @@ impl Connection {
             _ => self.ring.data(pdu).map_err(wrong)?,
         }
         self.ring.ask(&self.out);
-        // (what is here already goes on together)
-        if matches!(self.role, Role::Queue { qid: 1.., .. }) {
-            if !self.reader.has_more() {
-                self.hand_on(false);
-            }
-            return Ok(());
-        }
-        while let Some(capsule) = self.ring.next() {
+        // (Connect may make this an I/O queue, and more may wait behind it)
+        while !self.is_io()
+            && let Some(capsule) = self.ring.next()
+        {
             self.serve_here(&capsule);
         }
+        // (what is here already goes on together)
+        if self.is_io() && !self.reader.has_more() {
+            self.hand_on(false);
+        }
         Ok(())
+    }
+
+    /// Whether it is an I/O queue.
+    fn is_io(&self) -> bool {
+        matches!(self.role, Role::Queue { qid: 1.., .. })
     }
 
     /// Agrees on digests and on alignment.
@@ -155,9 +160,8 @@ impl Connection {
             return Err(Fatal::field(4));
         }
         let command = Command(pdu.entry());
-        let is_io = matches!(self.role, Role::Queue { qid: 1.., .. });
         let is_connect = command.opcode() == opcode::FABRICS && command.0[4] == fabrics::CONNECT;
-        let is_served = if is_io { has_data(&command) } else { is_connect };
+        let is_served = if self.is_io() { has_data(&command) } else { is_connect };
         self.ring.push(pdu, is_served);
         Ok(())
     }
@@ -194,10 +198,13 @@ impl Connection {
     fn hand_on(&mut self, is_late: bool) {
         let mut groups = vec![];
         while let Some(mut group) = self.ring.group(is_late) {
-            for capsule in &mut group {
-                self.judge(capsule);
+            group.iter_mut().for_each(|it| self.judge(it));
+            if group.iter().any(|it| it.verdict.is_some()) {
+                // (what is left of a pair is a half)
+                groups.extend(group.into_iter().map(|it| vec![it]));
+            } else {
+                groups.push(group);
             }
-            groups.push(group);
         }
         if !groups.is_empty() {
             let _ = self.shared.engine.send(Message::Take { id: self.id, groups });

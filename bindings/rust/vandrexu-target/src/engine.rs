@@ -75,6 +75,8 @@ pub(crate) struct Engine {
     by_id: HashMap<u64, usize>,
     tickets: Vec<Ticket>,
     random: Option<u64>,
+    /// Whether a step had no memory.
+    is_starved: bool,
 }
 
 /// The most resident memory of the process.
@@ -129,6 +131,7 @@ impl Engine {
             by_id: HashMap::new(),
             tickets: vec![],
             random: options.seed.map(|it| it.wrapping_mul(2) | 1),
+            is_starved: false,
         };
         it.load().map_err(|it| format!("the image can't be read into the controller: {it}"))?;
         it.write_down().map_err(|it| it.to_string())?;
@@ -178,7 +181,10 @@ impl Engine {
     }
 
     /// The next message. The engine waits for it where it has nothing to do.
-    fn wait(&self, messages: &Receiver<Message>) -> Result<Message, RecvTimeoutError> {
+    fn wait(&mut self, messages: &Receiver<Message>) -> Result<Message, RecvTimeoutError> {
+        if std::mem::take(&mut self.is_starved) {
+            return messages.recv_timeout(PAUSE);
+        }
         if !self.tickets.is_empty() || self.pairs.iter().any(|it| it.unfetched > 0) {
             return messages.try_recv().map_err(|_| RecvTimeoutError::Timeout);
         }
@@ -248,8 +254,8 @@ impl Engine {
                 }
                 let work = match self.disk.fetch(at as u16 + 1) {
                     Ok(work) => work,
-                    Err(Error::JobsFull | Error::NoMemory) => return Ok(()),
-                    Err(other) => return Err(other),
+                    Err(Error::JobsFull) => return Ok(()),
+                    Err(other) => return self.lacking(other),
                 };
                 let owes = match work.task {
                     Task::Failed { statuses } => statuses,
@@ -272,8 +278,7 @@ impl Engine {
             let (vandrexu::Step::Grant(number) | vandrexu::Step::Block(number) | vandrexu::Step::Post(number)) = step;
             match self.disk.step(step) {
                 Ok(made) => self.made(number, made)?,
-                Err(Error::NoMemory) => break,
-                Err(other) => return Err(other),
+                Err(other) => return self.lacking(other),
             }
         }
         Ok(())
@@ -290,11 +295,17 @@ impl Engine {
                     self.made(number, it)?;
                     (made, refused) = (made + 1, 0);
                 }
-                Err(Error::Conflict | Error::CqFull | Error::NoMemory) => refused += 1,
-                Err(other) => return Err(other),
+                Err(Error::Conflict | Error::CqFull) => refused += 1,
+                Err(other) => return self.lacking(other),
             }
         }
         Ok(())
+    }
+
+    /// A step that had no memory is made later; no other refusal is due.
+    pub(crate) fn lacking(&mut self, error: Error) -> Step<()> {
+        self.is_starved = error == Error::NoMemory;
+        if self.is_starved { Ok(()) } else { Err(error) }
     }
 
     /// The next step of a ticket, whatever it is.

@@ -153,6 +153,21 @@ fn connect_says_what_is_wrong() {
 }
 
 #[test]
+fn what_waits_behind_connect_is_of_the_queue_that_it_makes() {
+    let target = start(options());
+    let host = host(&target, 1);
+    // (its data is asked for, so the next command is there before it is served)
+    let by_r2t = Dial { in_capsule: 0, ..dial(&target) };
+    let mut queue = Queue::open(&by_r2t).unwrap();
+    queue.send_connect(&by_r2t, 2, host.controller).unwrap();
+    let flush = queue.send(Command::blocks(opcode::FLUSH, 0, 0), &[], 0).unwrap();
+    let identify = queue.send(Command::new(opcode::IDENTIFY), &[], 4096).unwrap();
+    let answers = [0, 1, 2].map(|_| queue.receive().unwrap());
+    let of = |cid| answers.iter().find(|it| it.completion.cid() == cid).map(code);
+    assert_eq!((code(&answers[0]), of(flush), of(identify)), (DONE, Some(DONE), Some((0, 1))));
+}
+
+#[test]
 fn disconnect_and_unknown_fabrics_commands_are_answered() {
     let target = start(options());
     let mut host = host(&target, 1);

@@ -2,7 +2,7 @@
 mod common;
 use common::{DONE, Folder, blocks, code, dial, host, is_explained, is_legal, options, read, start, write};
 use std::time::Duration;
-use vandrexu_initiator::{BLOCK, Command, Dial, Host, Status, opcode};
+use vandrexu_initiator::{BLOCK, Command, Dial, Host, Status, fabrics, opcode};
 use vandrexu_target::Options;
 
 #[test]
@@ -122,6 +122,30 @@ fn half_of_a_pair_is_answered_as_the_tables_say() {
     let mut codes = [0, 1, 2].map(|_| code(&queue.receive().unwrap()));
     codes.sort_unstable();
     assert_eq!(codes, [DONE, DONE, missing]);
+}
+
+#[test]
+fn a_pair_of_which_the_target_refuses_one_is_a_half() {
+    let target = start(options());
+    let mut host = host(&target, 1);
+    let queue = &mut host.queues[0];
+    let one = blocks(0, 1);
+    let second = Command::blocks(opcode::WRITE, 3, 1).fused(2);
+    let disconnect = Command::fabrics(fabrics::DISCONNECT).fused(1);
+    let cids = queue.send_all(&[(disconnect, &[]), (second, &blocks(1, 1))], 0).unwrap();
+    let answers = [0, 1].map(|_| queue.receive().unwrap());
+    for it in answers {
+        let due = if it.completion.cid() == cids[0] { DONE } else { Status::MISSING_FUSED.code() };
+        assert_eq!(code(&it), due);
+    }
+    // a second that is a Read with too little room
+    let first = Command::blocks(opcode::COMPARE, 3, 1).fused(1);
+    let cids = queue.send_all(&[(first, &one), (Command::blocks(opcode::READ, 3, 1).fused(2), &[])], 0).unwrap();
+    for it in [0, 1].map(|_| queue.receive().unwrap()) {
+        let due = if it.completion.cid() == cids[0] { Status::MISSING_FUSED.code() } else { (0, 0x0F) };
+        assert_eq!(code(&it), due);
+    }
+    assert_eq!(read(&mut host, 3, 1), one);
 }
 
 #[test]
