@@ -111,6 +111,9 @@ impl Engine {
     /// A controller whose volume is the image's.
     pub(crate) fn new(options: &Options, image: Option<Image>) -> Result<Engine, String> {
         let config = options.config;
+        if config.sq_size < 3 {
+            return Err("a submission queue of 2 slots has no room for a pair".into());
+        }
         let disk = Controller::new(&config).map_err(|it| it.to_string())?;
         let planner = Planner::new(options.naive, options.fault);
         let option = if planner.keeps_heads() { "" } else { "\nobserve ignore SQHD" };

@@ -122,6 +122,9 @@ fn words_of_the_command_line_are_read_or_told() {
     assert_eq!((options.config.blocks, options.seed, options.strict), (99, Some(4), true));
     assert_eq!(of(&["--listen", "127.0.0.1:7"]).unwrap().listen.port(), 7);
     assert!(options.listen.ip().is_loopback());
+    let no_room =
+        Options { config: vandrexu_target::Config { sq_size: 2, ..common::options().config }, ..common::options() };
+    assert!(Target::start(no_room).is_err_and(|it| it.contains("no room for a pair")));
     for wrong in [&["--blocks", "0"][..], &["--seed", "x"], &["--what", "1"], &["--listen"], &["--fault", "none"]] {
         assert!(of(wrong).is_err(), "{wrong:?}");
     }

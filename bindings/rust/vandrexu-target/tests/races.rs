@@ -6,7 +6,7 @@ use std::path::PathBuf;
 use std::sync::Barrier;
 use std::sync::atomic::{AtomicU64, Ordering};
 use vandrexu_initiator::{BLOCK, Command, Dial, Host, Trace, opcode, u64_at};
-use vandrexu_target::{Options, Target};
+use vandrexu_target::{Config, Options, Target};
 
 /// A lock block of this owner, 0 for none; the number makes each one unlike all others.
 fn lock(owner: u64, number: u64) -> Vec<u8> {
@@ -84,6 +84,39 @@ fn no_lock_is_held_twice_and_all_is_explained() {
         is_legal(&history);
         assert!(is_explained(&own), "the target's trace, seed {seed:?}");
         assert!(is_explained(&seen), "the hosts' trace, seed {seed:?}");
+    }
+}
+
+#[test]
+fn small_rings_boundaries_and_shared_completion_queues_are_served() {
+    for (line, seed) in [
+        ("config 64 0 0 0 0 4 3 3 1", None),
+        ("config 64 2 1 3 1 4 3 3 2", Some(3)),
+        ("config2 64 3 1 0 0 4 4 3 8 1", Some(4)),
+        ("config2 64 7 0 7 0 4 5 4 3 2", None),
+    ] {
+        let folder = Folder::new();
+        let (history, own) = (folder.file("history"), folder.file("own"));
+        let config = Config::of_line(line).expect("a configuration");
+        let options = Options { config, seed, history: Some(history.clone()), trace: Some(own.clone()), ..options() };
+        let target = start(options);
+        let small = Dial { slots: config.sq_size.min(config.cq_size), ..dial(&target) };
+        let held = [AtomicU64::new(0)];
+        std::thread::scope(|scope| {
+            for me in 1..=3 {
+                let (small, held) = (small.clone().named(&format!("nqn.host-{me}")), &held);
+                scope.spawn(move || {
+                    let mut host = Host::connect(&small, 1).expect("a host");
+                    assert_eq!(contend(&mut host, me, 20, 1, held), 0);
+                    let data = [lock(me, 7), lock(me, 8), lock(me, 9), lock(me, 10)].concat();
+                    assert_eq!(common::write(&mut host, 8 * me, &data), common::DONE);
+                    assert_eq!(common::read(&mut host, 8 * me, 4), data);
+                });
+            }
+        });
+        drop(target);
+        is_legal(&history);
+        assert!(is_explained(&own), "{line}");
     }
 }
 
