@@ -70,6 +70,18 @@ impl std::fmt::Display for End {
     }
 }
 
+impl Drop for Connection {
+    /// Leaves all that it had.
+    fn drop(&mut self) {
+        if let Role::Queue { controller, qid } = self.role {
+            self.shared.hosts().forget_queue(self.id, controller, qid);
+            if qid != 0 {
+                let _ = self.shared.engine.send(Message::Close { id: self.id });
+            }
+        }
+    }
+}
+
 impl Connection {
     /// A connection at its begin.
     pub(crate) fn new(shared: Arc<Shared>, stream: TcpStream, id: u64, out: Outlet) -> Connection {
@@ -95,17 +107,6 @@ impl Connection {
                 return end;
             }
         }
-    }
-
-    /// Leaves all that it had, and gives its stream back.
-    pub(crate) fn leave(self) -> TcpStream {
-        if let Role::Queue { controller, qid } = self.role {
-            self.shared.hosts().forget_queue(self.id, controller, qid);
-            if qid != 0 {
-                let _ = self.shared.engine.send(Message::Close { id: self.id });
-            }
-        }
-        self.reader.into_stream()
     }
 
     fn take(&mut self, pdu: &Pdu) -> Result<(), End> {

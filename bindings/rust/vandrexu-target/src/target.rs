@@ -137,7 +137,7 @@ fn listen(listener: &TcpListener, shared: &Arc<Shared>) {
             Ok((stream, peer)) => {
                 let given = shared.clone();
                 let id = shared.last.fetch_add(1, Ordering::Relaxed) + 1;
-                // (a connection for which there is no thread is closed)
+                // (a connection that can't be set up is closed)
                 let _ = thread::Builder::new().spawn(move || serve(&given, stream, id, peer));
             }
             // (too many open files, say)
@@ -149,29 +149,35 @@ fn listen(listener: &TcpListener, shared: &Arc<Shared>) {
 /// How often a connection that is silent looks at its clocks.
 const TICK: Duration = Duration::from_millis(200);
 
-fn serve(shared: &Arc<Shared>, stream: TcpStream, id: u64, peer: SocketAddr) {
-    let Ok(writing) = prepared(shared, &stream, id) else { return };
-    let Ok((out, writer)) = Outlet::start(writing) else { return };
-    let mut connection = Connection::new(shared.clone(), stream, id, out);
-    let why = connection.serve();
-    shared.say(|| format!("connection {id} of {peer} ends: {why}"));
-    // (the other side may still read why it ends)
-    let stream = connection.leave();
-    join(Some(writer));
-    drain(stream);
-    shared.hosts().forget(id);
+/// A connection that was admitted, until this is dropped, however that comes.
+struct Admitted<'a>(&'a Shared, u64);
+
+impl Drop for Admitted<'_> {
+    fn drop(&mut self) {
+        self.0.hosts().forget(self.1);
+    }
 }
 
-/// Sets a connection up, if it may come: a handle to write on.
-fn prepared(shared: &Shared, stream: &TcpStream, id: u64) -> std::io::Result<TcpStream> {
+/// Serves a connection until it ends, if it may come.
+fn serve(shared: &Arc<Shared>, stream: TcpStream, id: u64, peer: SocketAddr) -> std::io::Result<()> {
     stream.set_nodelay(true)?;
     stream.set_read_timeout(Some(TICK))?;
     stream.set_write_timeout(Some(shared.options.patience))?;
-    let known = stream.try_clone()?;
+    let (known, writing, rest) = (stream.try_clone()?, stream.try_clone()?, stream.try_clone()?);
     if !shared.hosts().admit(id, known, shared.options.connections) {
-        return Err(std::io::ErrorKind::ConnectionRefused.into());
+        shared.say(|| format!("connection {id} of {peer} is one too many"));
+        return Ok(());
     }
-    stream.try_clone().inspect_err(|_| shared.hosts().forget(id))
+    let _admitted = Admitted(shared, id);
+    let (out, writer) = Outlet::start(writing)?;
+    let mut connection = Connection::new(shared.clone(), stream, id, out);
+    let why = connection.serve();
+    shared.say(|| format!("connection {id} of {peer} ends: {why}"));
+    drop(connection);
+    // (the other side may still read why it ends)
+    join(Some(writer));
+    drain(rest);
+    Ok(())
 }
 
 /// Reads on until the other side closes, for a while, so that what was written last isn't lost.

@@ -73,11 +73,6 @@ impl<R: Read> Reader<R> {
         here.len() >= 8 && here.len() >= u32_at(here, 4) as usize
     }
 
-    /// What was sent and isn't taken yet, and no more: the reader is done.
-    pub fn into_stream(self) -> R {
-        self.from
-    }
-
     /// What it reads from.
     pub fn stream(&self) -> &R {
         &self.from
