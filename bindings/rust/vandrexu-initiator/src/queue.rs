@@ -230,7 +230,8 @@ impl Queue {
     fn take_data(&mut self, pdu: &Pdu) -> Result<()> {
         let (cid, at) = (u16_at(pdu.header(), 8), u32_at(pdu.header(), 12) as usize);
         let data = pdu.data();
-        let sent = self.sent.get_mut(&cid).ok_or(Error::Target("data of no command"))?;
+        // (the completion of no command comes behind it, and is told)
+        let Some(sent) = self.sent.get_mut(&cid) else { return Ok(()) };
         if !pdu.is_intact {
             return Err(Error::Target("data with a wrong digest"));
         }
@@ -256,13 +257,15 @@ impl Queue {
 
     fn answer(&mut self, pdu: &Pdu) -> Result<Answer> {
         let completion = Completion(pdu.header()[8..24].try_into().expect("16 bytes"));
-        let sent = self.sent.remove(&completion.cid()).ok_or(Error::Target("a completion of no command"))?;
-        let is_read = completion.status().is(Status::SUCCESS) && sent.command.0[0] & 3 == 2;
-        let answer = Answer { completion, data: if is_read { sent.read } else { vec![] } };
+        let sent = self.sent.remove(&completion.cid());
+        let is_known = sent.is_some();
+        let is_read = |it: &Sent| completion.status().is(Status::SUCCESS) && it.command.0[0] & 3 == 2;
+        let data = sent.filter(is_read).map_or(vec![], |it| it.read);
+        // (one that no command is owed was seen, too)
         if let Some(trace) = &mut self.trace {
-            trace.reap(&completion, &answer.data)?;
+            trace.reap(&completion, &data)?;
         }
-        Ok(answer)
+        if is_known { Ok(Answer { completion, data }) } else { Err(Error::Target("a completion of no command")) }
     }
 
     /// Sends a command and waits for its completion; no other is in flight.

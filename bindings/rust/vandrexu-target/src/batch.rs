@@ -1,20 +1,19 @@
 //! From hosts to the controller: what waits is published, as far as there is room.
 use crate::completions::Reply;
-use crate::engine::Engine;
+use crate::engine::{Engine, Later};
 use crate::faults::{Plan, own};
 use crate::pairs::Sent;
 use crate::ring::{Capsule, MOST, has_data};
-use std::collections::VecDeque;
 use std::time::{Duration, Instant};
 use vandrexu::{BLOCK, Entry, Error, Result as Step};
-use vandrexu_wire::{Command, Status, opcode, put16, u32_at, u64_at};
+use vandrexu_wire::{Command, Status, opcode, u32_at, u64_at};
 
 /// Limited Retry.
 const LIMITED_RETRY: u8 = 0x80;
 /// Force Unit Access, which is so of each write where there is no volatile cache.
 const FORCE_UNIT_ACCESS: u8 = 0x40;
 
-/// How long a Write waits that was told as done.
+/// How long a command waits that a fault gives the controller later.
 const LATE: Duration = Duration::from_millis(3);
 
 impl Engine {
@@ -131,22 +130,22 @@ impl Engine {
     fn tell_early(&mut self, at: usize, mut capsule: Capsule) {
         self.replies.push(Reply::of_target(at, capsule.command.cid(), Status::SUCCESS));
         capsule.command = own(&capsule.command);
-        self.later.push_back((at, capsule, Instant::now() + LATE));
+        self.delay(at, capsule, Plan::Silent);
+    }
+
+    /// Gives the controller a command a little later.
+    pub(crate) fn delay(&mut self, at: usize, capsule: Capsule, plan: Plan) {
+        // (no other queue has the pair before)
+        self.pairs[at].queue.iter_mut().for_each(|it| it.outstanding += 1);
+        self.later.push_back(Later { at, capsule, plan, due: Instant::now() + LATE });
     }
 
     fn publish_later(&mut self) -> Step<()> {
-        let mut waits = VecDeque::new();
-        while let Some((at, mut capsule, due)) = self.later.pop_front() {
-            if due > Instant::now() {
-                waits.push_back((at, capsule, due));
-                continue;
-            }
-            // (of several that wait none has another's CID)
-            let cid = capsule.command.cid().wrapping_add(0x1000 * (self.later.len() as u16 % 8));
-            put16(&mut capsule.command.0, 2, cid);
-            self.give(at, vec![(capsule, Plan::Silent)])?;
+        while self.later.front().is_some_and(|it| it.due <= Instant::now()) {
+            let Some(Later { at, capsule, plan, .. }) = self.later.pop_front() else { break };
+            self.pairs[at].queue.iter_mut().for_each(|it| it.outstanding -= 1);
+            self.give(at, vec![(capsule, plan)])?;
         }
-        self.later = waits;
         Ok(())
     }
 

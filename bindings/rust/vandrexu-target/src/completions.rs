@@ -17,6 +17,8 @@ pub(crate) struct Reply {
     taken: u16,
     /// The phase tag that is right.
     phase: u8,
+    /// By how many the head is too many, on purpose.
+    skew: u16,
     /// Whether the trace has it already.
     is_traced: bool,
 }
@@ -25,7 +27,7 @@ impl Reply {
     /// The target's own answer to a command that the controller isn't given.
     pub(crate) fn of_target(at: usize, cid: u16, status: Status) -> Reply {
         let completion = Completion::new(cid, status, 0);
-        Reply { at, completion, data: vec![], taken: 1, phase: 0, is_traced: true }
+        Reply { at, completion, data: vec![], taken: 1, phase: 0, skew: 0, is_traced: true }
     }
 }
 
@@ -57,7 +59,7 @@ impl Engine {
             return Err(format!("a completion of no command: {completion:?}").into());
         };
         let phase = completion.0[14] & 1;
-        let reply = Reply { at, completion, data: reaped.data, taken, phase, is_traced: false };
+        let reply = Reply { at, completion, data: reaped.data, taken, phase, skew: 0, is_traced: false };
         for reply in self.follow(reply, sent)? {
             self.trace_reply(queue, &reply)?;
             self.replies.push(reply);
@@ -76,7 +78,7 @@ impl Engine {
             Plan::Plain => Ok(vec![reply]),
             Plan::Silent => Ok(vec![]),
             Plan::Half(rest) if is_done => {
-                self.then(reply.at, *rest, Plan::Plain)?;
+                self.delay(reply.at, *rest, Plan::Plain);
                 Ok(vec![])
             }
             Plan::Half(_) => Ok(vec![reply]),
@@ -129,7 +131,10 @@ impl Engine {
             FaultKind::SwappedPair if compared => *it = it.with(Status::FAILED_FUSED),
             FaultKind::SwappedPair if second => *it = it.with(Status::COMPARE_FAILURE),
             FaultKind::WrongPhase => it.0[14] ^= 1,
-            FaultKind::WrongHead => *it = it.of_queue(it.sqid(), (it.sqhd() + 1) % size),
+            FaultKind::WrongHead => {
+                *it = it.of_queue(it.sqid(), (it.sqhd() + 1) % size);
+                reply.skew = 1;
+            }
             FaultKind::FlippedBit => {
                 if let Some(byte) = reply.data.first_mut() {
                     *byte ^= 1;
@@ -152,7 +157,7 @@ impl Engine {
         for reply in self.replies.drain(..) {
             let Some(queue) = &mut self.pairs[reply.at].queue else { continue };
             queue.fetched += u64::from(reply.taken);
-            let mut it = queue.on_the_wire(&reply.completion, reply.phase);
+            let mut it = queue.on_the_wire(&reply.completion, reply.phase, reply.skew);
             let status = it.status();
             // (the same command would fail in the same way, but for one whose other half failed)
             let may_pass = [Status::SUCCESS, Status::FAILED_FUSED, Status::MISSING_FUSED, Status::TRANSPORT];

@@ -1,6 +1,6 @@
 //! The one thread that has the controller: it publishes, fetches, makes steps and reaps, and answers hosts.
 use crate::completions::Reply;
-use crate::faults::Planner;
+use crate::faults::{Plan, Planner};
 use crate::outlet::Outlet;
 use crate::pairs::{Pair, Queue};
 use crate::records::{History, Trace};
@@ -44,6 +44,19 @@ pub(crate) enum Message {
     End,
 }
 
+/// A command that the controller is given later.
+#[derive(Debug)]
+pub(crate) struct Later {
+    /// Which pair.
+    pub at: usize,
+    /// The command.
+    pub capsule: Capsule,
+    /// What is done about its completion.
+    pub plan: Plan,
+    /// When.
+    pub due: Instant,
+}
+
 /// A ticket that is in flight.
 #[derive(Debug)]
 struct Ticket {
@@ -65,8 +78,8 @@ pub(crate) struct Engine {
     pub(crate) trace: Trace,
     /// What is answered once it is written down what was done.
     pub(crate) replies: Vec<Reply>,
-    /// Writes that were told as done already, with the queue of each, and when they are given to the controller.
-    pub(crate) later: VecDeque<(usize, Capsule, Instant)>,
+    /// What the controller is given later, by a fault.
+    pub(crate) later: VecDeque<Later>,
     /// What blocks held before the last Write, where that is wanted.
     pub(crate) past: HashMap<u64, [u8; BLOCK]>,
     pub(crate) memory: Memory,
