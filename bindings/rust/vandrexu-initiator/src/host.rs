@@ -107,7 +107,7 @@ impl Host {
         Ok(host)
     }
 
-    /// Asks for so many I/O queues: how many the target gives.
+    /// Asks for I/O queues, and gives the number that the target keeps for this host.
     ///
     /// # Errors
     /// As those of `connect`.
@@ -157,7 +157,7 @@ impl Host {
         self.admin.call(command, &[], 4096)
     }
 
-    /// A log page of so many bytes.
+    /// A log page, of this length in bytes.
     ///
     /// # Errors
     /// A failed connection.

@@ -84,7 +84,7 @@ impl Queue {
         Ok(Queue { to, from, format, most, in_capsule: dial.in_capsule, next: 0, sent: HashMap::new(), trace: None })
     }
 
-    /// Connects it as a queue of this number, of so many slots; of the admin queue the controller is FFFFh.
+    /// Connects it as the queue of this number. For the admin queue, 0, the controller is FFFFh.
     ///
     /// # Errors
     /// A failed connection.
@@ -118,7 +118,7 @@ impl Queue {
         Ok(self.to.write_all(bytes)?)
     }
 
-    /// Sends a command with its data, and gives its CID; a Read has so many bytes of room.
+    /// Sends a command with its data, and gives its CID. `room` is how many bytes a Read may bring.
     ///
     /// # Errors
     /// A failed connection.
@@ -277,7 +277,7 @@ impl Queue {
         self.receive()
     }
 
-    /// Compares and writes as one: whether the blocks held what was expected, and now hold what is desired.
+    /// Compares and writes as one. True where the blocks held the first, and now hold the second.
     ///
     /// # Errors
     /// As those of `send` and `receive`; two statuses that no pair is answered.

@@ -13,8 +13,8 @@ pub struct Trace {
 }
 
 impl Trace {
-    /// A new file, which begins with the line of a configuration whose completion queues have so many slots. A host
-    /// can't see the heads of the controller's own queues, nor its Do Not Retry, so both are ignored.
+    /// A new file, which begins with the line of a configuration, whose completion queues have `cq_size` slots. A host
+    /// can't see the heads of the controller's own queues, nor its Do Not Retry, so the trace ignores both.
     ///
     /// # Errors
     /// What the system says of the file.

@@ -15,7 +15,7 @@ vandrexu-lock: a lock between machines that share a disk over NVMe/TCP
       takes slot N over from host D, which is fenced, runs the command, and releases the slot
 
 OPTIONS: --target ADDRESS:PORT   the target
-         --area FIRST,COUNT      the slots: so many blocks from FIRST on, the same for all hosts
+         --area FIRST,COUNT      the slots: COUNT blocks from FIRST on, the same for all hosts
          --nqn NAME              the subsystem (nqn.2026-11.org.vandrexu:disk)
          --name NAME             the name of this host (nqn.2026-11.org.vandrexu:lock:H)
 

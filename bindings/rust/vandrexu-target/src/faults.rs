@@ -52,7 +52,7 @@ kinds! {
 pub struct Fault {
     /// What it does.
     pub kind: FaultKind,
-    /// It happens every so many times that it could.
+    /// 1 if it happens each time that it could, 2 if every second time, and so on.
     pub every: u64,
 }
 

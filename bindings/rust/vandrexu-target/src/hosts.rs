@@ -105,7 +105,7 @@ impl Hosts {
         self.controllers.iter().filter(|(_, it)| !it.is_discovery).map(|(number, _)| *number).collect()
     }
 
-    /// Keeps up to so many I/O queues for a controller, of the target's pairs: how many.
+    /// Keeps I/O queues for a controller, as many as it wants and the target has, and gives their number.
     pub(crate) fn keep_queues(&mut self, number: u16, wanted: u16, pairs: u16) -> u16 {
         let others: u16 = self.controllers.iter().filter(|(it, _)| **it != number).map(|(_, it)| it.queues).sum();
         let given = wanted.min(pairs.saturating_sub(others));

@@ -47,11 +47,11 @@ impl error::Error for ImageError {}
 const HEAD: usize = 20;
 const MARK: u32 = 0x314A_5856;
 
-/// The journal begins anew behind so many bytes.
+/// A journal that is longer, in bytes, begins anew.
 const LONG: u64 = 1 << 20;
 
 impl Image {
-    /// Opens the file, or makes one, for a volume of so many blocks; what its journal has is written.
+    /// Opens the file of a volume with this number of blocks, or makes one, and writes what its journal has.
     ///
     /// # Errors
     /// What the system says; a file of another volume; one that another target has.

@@ -72,7 +72,7 @@ impl Queue {
     }
 
     /// A completion as the host's queue has it: its own number and head, and the phase tag that was right as 0. The head
-    /// counts the entry of Connect as well, and so many too many, where it is to be wrong.
+    /// counts the entry of Connect as well. `skew` makes it wrong on purpose.
     pub(crate) fn on_the_wire(&self, completion: &Completion, right_phase: u8, skew: u16) -> Completion {
         let head = (1 + self.fetched + u64::from(skew)) % u64::from(self.slots);
         let mut it = completion.of_queue(self.qid, head as u16);

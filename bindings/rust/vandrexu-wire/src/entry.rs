@@ -139,7 +139,7 @@ impl Command {
         Command(bytes)
     }
 
-    /// A command of so many blocks of namespace 1; of a Flush they count for nothing.
+    /// A command of namespace 1, with its first block and its blocks. A Flush has neither.
     #[must_use]
     pub fn blocks(opcode: u8, slba: u64, count: usize) -> Command {
         let mut it = Command::new(opcode);

@@ -136,7 +136,7 @@ impl Format {
         self.build(kind::RESPONSE, 0, entry, &[])
     }
 
-    /// Ready to Transfer: so many bytes of this command's data, from its begin on.
+    /// Ready to Transfer: asks for this command's data, from its begin on.
     #[must_use]
     pub fn ready(&self, cid: u16, tag: u16, length: u32) -> Vec<u8> {
         self.build(kind::R2T, 0, &transfer(cid, tag, 0, length), &[])
