@@ -120,11 +120,16 @@ fn a_slot_of_a_host_that_was_killed_is_taken_over() {
 #[test]
 fn an_interrupt_ends_the_command_and_the_slot_is_released() {
     let scene = Scene::new("interrupt");
-    let words = ["--slot", "2", "--host", "5", "--", "sleep", "60"];
+    let begun = scene.folder.join("begun");
+    let script = format!("touch {}; exec sleep 60", begun.display());
+    let words = ["--slot", "2", "--host", "5", "--", "sh", "-c", &script];
     let mut host = scene.program(&words).process_group(0).spawn().expect("the program");
+    let began = Instant::now();
+    while !begun.exists() {
+        assert!(began.elapsed() < Duration::from_secs(20), "the command doesn't begin");
+        thread::sleep(Duration::from_millis(20));
+    }
     until_held(&scene, "slot 2: host 5,");
-    // (held a moment before the command runs)
-    thread::sleep(Duration::from_millis(500));
     let group = format!("-{}", host.id());
     assert!(Command::new("kill").args(["-INT", "--", &group]).status().expect("kill").success());
     assert_eq!(host.wait().expect("ended").code(), Some(130));

@@ -1,6 +1,7 @@
 //! Connect: a connection becomes a queue.
 use crate::connection::{Connection, Role};
 use crate::engine::Message;
+use crate::hosts::Admitted;
 use std::sync::mpsc::channel;
 use std::thread;
 use std::time::Duration;
@@ -62,6 +63,9 @@ impl Connection {
     /// Serves Connect: the number of the controller.
     pub(crate) fn connect(&mut self, command: &Command, data: &[u8]) -> Result<u64, Refusal> {
         let asked = Asked::of(command, data)?;
+        if self.admitted != Admitted::Yes {
+            return Err((Status::CONNECT_BUSY, 0));
+        }
         let options = &self.shared.options;
         let is_discovery = asked.subsystem == DISCOVERY;
         if asked.subsystem != options.subsystem && !is_discovery {

@@ -1,5 +1,6 @@
 //! One connection: it reads PDUs, and hands on what they ask for.
 use crate::engine::Message;
+use crate::hosts::Admitted;
 use crate::identify::IN_CAPSULE;
 use crate::outlet::Outlet;
 use crate::ring::{Capsule, MOST, Ring, has_data};
@@ -39,6 +40,8 @@ pub(crate) struct Connection {
     pub role: Role,
     /// Slots of its queue.
     pub slots: u16,
+    /// Whether its Connect may be served.
+    pub admitted: Admitted,
     reader: Reader<TcpStream>,
     ring: Ring,
     fetched: u64,
@@ -84,10 +87,11 @@ impl Drop for Connection {
 
 impl Connection {
     /// A connection at its begin.
-    pub(crate) fn new(shared: Arc<Shared>, stream: TcpStream, id: u64, out: Outlet) -> Connection {
+    pub(crate) fn new(shared: Arc<Shared>, stream: TcpStream, id: u64, out: Outlet, admitted: Admitted) -> Connection {
         let reader = Reader::new(stream, Side::Target, MOST);
-        let (ring, now) = (Ring::default(), Instant::now());
-        Connection { shared, id, out, role: Role::New, slots: 32, reader, ring, fetched: 0, began: now, heard: now }
+        let (ring, began, heard) = (Ring::default(), Instant::now(), Instant::now());
+        let (role, slots, fetched) = (Role::New, 32, 0);
+        Connection { shared, id, out, role, slots, admitted, reader, ring, fetched, began, heard }
     }
 
     /// Serves it until it ends.

@@ -42,17 +42,32 @@ pub(crate) struct Hosts {
     last: u16,
 }
 
+/// Whether a connection may come.
+#[derive(Clone, Copy, Debug, PartialEq, Eq)]
+pub(crate) enum Admitted {
+    /// It may.
+    Yes,
+    /// It is one too many: its Connect is answered so.
+    ToBeRefused,
+    /// It is closed.
+    No,
+}
+
+/// How many connections too many are answered at a time.
+const ANSWERED: usize = 16;
+
 /// The numbers of controllers end here.
 const LAST: u16 = 0xFFEF;
 
 impl Hosts {
-    /// Notes a connection; false where there are as many as may be.
-    pub(crate) fn admit(&mut self, id: u64, socket: TcpStream, most: usize) -> bool {
-        let fits = self.sockets.len() < most;
-        if fits {
-            self.sockets.insert(id, socket);
+    /// Notes a connection, unless there are so many that it can't even be answered.
+    pub(crate) fn admit(&mut self, id: u64, socket: TcpStream, most: usize) -> Admitted {
+        let before = self.sockets.len();
+        if before >= most + ANSWERED {
+            return Admitted::No;
         }
-        fits
+        self.sockets.insert(id, socket);
+        if before >= most { Admitted::ToBeRefused } else { Admitted::Yes }
     }
 
     /// How many connections there are.

@@ -1,7 +1,7 @@
 //! The target: it listens, and gives each connection threads of its own.
 use crate::connection::Connection;
 use crate::engine::{Engine, Message};
-use crate::hosts::Hosts;
+use crate::hosts::{Admitted, Hosts};
 use crate::options::USAGE;
 use crate::outlet::Outlet;
 use crate::{Image, Options};
@@ -149,10 +149,10 @@ fn listen(listener: &TcpListener, shared: &Arc<Shared>) {
 /// How often a connection that is silent looks at its clocks.
 const TICK: Duration = Duration::from_millis(200);
 
-/// A connection that was admitted, until this is dropped, however that comes.
-struct Admitted<'a>(&'a Shared, u64);
+/// A connection that is noted, until this is dropped, however that comes.
+struct Noted<'a>(&'a Shared, u64);
 
-impl Drop for Admitted<'_> {
+impl Drop for Noted<'_> {
     fn drop(&mut self) {
         self.0.hosts().forget(self.1);
     }
@@ -164,13 +164,16 @@ fn serve(shared: &Arc<Shared>, stream: TcpStream, id: u64, peer: SocketAddr) -> 
     stream.set_read_timeout(Some(TICK))?;
     stream.set_write_timeout(Some(shared.options.patience))?;
     let (known, writing, rest) = (stream.try_clone()?, stream.try_clone()?, stream.try_clone()?);
-    if !shared.hosts().admit(id, known, shared.options.connections) {
+    let admitted = shared.hosts().admit(id, known, shared.options.connections);
+    if admitted != Admitted::Yes {
         shared.say(|| format!("connection {id} of {peer} is one too many"));
+    }
+    if admitted == Admitted::No {
         return Ok(());
     }
-    let _admitted = Admitted(shared, id);
+    let _noted = Noted(shared, id);
     let (out, writer) = Outlet::start(writing)?;
-    let mut connection = Connection::new(shared.clone(), stream, id, out);
+    let mut connection = Connection::new(shared.clone(), stream, id, out, admitted);
     let why = connection.serve();
     shared.say(|| format!("connection {id} of {peer} ends: {why}"));
     drop(connection);

@@ -21,7 +21,8 @@ fn hosts_that_are_not_named_are_refused() {
 fn connections_are_limited_and_free_again() {
     let target = start(Options { connections: 3, ..options() });
     let first = host(&target, 2);
-    assert!(Host::connect(&dial(&target), 0).is_err());
+    let second = Host::connect(&dial(&target), 0);
+    assert!(matches!(second, Err(Error::Refused(it, _)) if it.is(Status::CONNECT_BUSY) && !it.is_final()));
     drop(first);
     until("they are free", || target.connections() == 0);
     host(&target, 2);
@@ -69,7 +70,7 @@ fn a_host_that_sends_nothing_is_left() {
 #[test]
 fn without_keep_alive_a_host_loses_its_queues() {
     let target = start(options());
-    let mut host = Host::connect(&Dial { keep_alive: 500, ..dial(&target) }, 1).unwrap();
+    let mut host = Host::connect(&Dial { keep_alive: 2000, ..dial(&target) }, 1).unwrap();
     for _ in 0..10 {
         std::thread::sleep(Duration::from_millis(200));
         assert_eq!(code(&host.admin.call(Command::new(opcode::KEEP_ALIVE), &[], 0).unwrap()), DONE);
