@@ -1,5 +1,5 @@
 -- Two hosts that claim one slot in turn: how often each claimed it, and which entry each completion is for.
-use Rattle.std.proofs.Common.{List, [], absurd, arith, map, refl, suc, zero, ℕ, ◌∷◌, ◌≡◌}
+use Rattle.std.proofs.Common.{List, [], arith, map, refl, suc, zero, ℕ, ◌∷◌, ◌≡◌}
 use Rattle.nvme_model.specs.Array.{zeros}
 use Rattle.nvme_model.specs.Examples.{submit}
 use Rattle.nvme_model.specs.History.{Past}
