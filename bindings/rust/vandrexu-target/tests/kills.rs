@@ -118,7 +118,7 @@ fn look(queue: &mut Queue, known: &mut [Known]) {
 
 #[test]
 fn an_image_survives_kills_at_any_moment() {
-    let kills: u32 = std::env::var("VANDREXU_KILLS").ok().and_then(|it| it.parse().ok()).unwrap_or(40);
+    let kills: u32 = std::env::var("VANDREXU_KILLS").ok().and_then(|it| it.parse().ok()).unwrap_or(20);
     let folder = Folder::new();
     let image = folder.file("image");
     let (mut known, mut next, mut random) = (vec![Known::default(); UNITS as usize], 0, Random(99));
