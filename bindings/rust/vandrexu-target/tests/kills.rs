@@ -19,7 +19,18 @@ struct Running(Child, SocketAddr);
 
 impl Running {
     fn start(image: &Path) -> Running {
-        let mut child = Process::new(env!("CARGO_BIN_EXE_vandrexu-target"))
+        Running::of(Process::new(env!("CARGO_BIN_EXE_vandrexu-target")), image)
+    }
+
+    /// One that the system kills where it writes behind 350 or 700 KiB of a file, as the shell has it.
+    fn limited(image: &Path) -> Running {
+        let mut shell = Process::new("sh");
+        shell.args(["-c", "ulimit -f 700; exec \"$0\" \"$@\"", env!("CARGO_BIN_EXE_vandrexu-target")]);
+        Running::of(shell, image)
+    }
+
+    fn of(mut program: Process, image: &Path) -> Running {
+        let mut child = program
             .args([
                 "--listen",
                 "127.0.0.1:0",
@@ -39,7 +50,12 @@ impl Running {
         Running(child, address.unwrap_or_else(|| panic!("no address: {line}")))
     }
 
-    fn kill(mut self) {
+    fn kill(self) {}
+}
+
+impl Drop for Running {
+    /// Kills it; also where a test fails.
+    fn drop(&mut self) {
         self.0.kill().expect("killed");
         self.0.wait().expect("ended");
     }
@@ -60,7 +76,7 @@ fn unit(number: u64) -> Vec<u8> {
 }
 
 /// What a host knows of each unit: the last number that was told as done, and those that may be.
-#[derive(Clone, Default)]
+#[derive(Clone, Debug, Default)]
 struct Known {
     done: u64,
     open: Vec<u64>,
@@ -102,7 +118,7 @@ fn look(queue: &mut Queue, known: &mut [Known]) {
 
 #[test]
 fn an_image_survives_kills_at_any_moment() {
-    let kills: u32 = std::env::var("VANDREXU_KILLS").ok().and_then(|it| it.parse().ok()).unwrap_or(40);
+    let kills: u32 = std::env::var("VANDREXU_KILLS").ok().and_then(|it| it.parse().ok()).unwrap_or(20);
     let folder = Folder::new();
     let image = folder.file("image");
     let (mut known, mut next, mut random) = (vec![Known::default(); UNITS as usize], 0, Random(99));
@@ -127,4 +143,35 @@ fn an_image_survives_kills_at_any_moment() {
     }
     eprintln!("{kills} kills, {next} units were begun");
     assert!(next > u64::from(kills));
+}
+
+#[test]
+fn a_target_that_dies_within_its_journal_has_told_nothing_too_early() {
+    let folder = Folder::new();
+    let image = folder.file("image");
+    // (the file has its length already)
+    Running::start(&image).kill();
+    let running = Running::limited(&image);
+    let mut host = Host::connect(&Dial::to(running.1), 1).expect("a host");
+    let mut known = Known::default();
+    for number in 1..100 {
+        known.open.push(number);
+        let sent = host.queues[0].call(Command::blocks(opcode::WRITE, first_of(0), UNIT), &unit(number), 0);
+        match sent {
+            Ok(answer) => assert!(answer.is_success()),
+            Err(_) => break,
+        }
+        known = Known { done: number, open: vec![] };
+    }
+    // (it died on its own, in the middle of a record)
+    running.kill();
+    assert!(known.done > 0 && !known.open.is_empty(), "{} units were done", known.done);
+    let journal = std::fs::metadata(folder.file("image.journal")).expect("a journal").len();
+    assert_ne!(journal % (20 + (UNIT * BLOCK) as u64), 0, "the last record is whole");
+    let running = Running::start(&image);
+    let mut host = Host::connect(&Dial::to(running.1), 1).expect("a host");
+    let due = known.done;
+    look(&mut host.queues[0], std::slice::from_mut(&mut known));
+    assert_eq!(known.done, due, "what wasn't told isn't there");
+    running.kill();
 }
