@@ -13,7 +13,7 @@ use Rattle.nvme_model.specs.declared.submission.Submission.{Submission}
 use Rattle.trace.specs.declared.options.TraceOptions.{TraceOptions}
 use Rattle.trace.specs.declared.seen.ReapedLine.{ReapedLine}
 use Rattle.trace.specs.declared.seen.Seen.{Seen}
-use Rattle.refutation_laws.specs.EffectOrders.{EffectName, before_post, comes_before, is_earlier_unit}
+use Rattle.refutation_laws.specs.EffectOrders.{EffectName, before_post, comes_before, ends_before, is_earlier_unit}
 use Rattle.refutation_laws.specs.EffectOrders.{is_fetched_later, is_made_by_post, is_told_by_head, last_entry, longer}
 use Rattle.refutation_laws.specs.EffectOrders.{through_entries, through_reaps}
 use Rattle.refutation_laws.specs.LineRules.{least_fetched}
@@ -361,6 +361,14 @@ of_three true true e i h = refl
 of_three true false e i h = or_sym e (i && h)
 of_three false x e true h = or_sym e false
 of_three false x e false h = or_sym e false
+
+pub ends_by_place : (c : ConfigNumbers) (trace : List Seen) (a b : EffectName) → ends_before c trace a b
+    ≡ (is_sure c trace a.queue a.number a.unit && is_among (answer_place trace a.queue a.number)
+    (length (before_entry trace b.queue (last_entry trace b.queue b.number))))
+ends_by_place c trace a b =
+    let x = lines_before trace b.queue (last_entry trace b.queue b.number) in
+    sure_in c trace (before_entry trace b.queue (last_entry trace b.queue b.number)) a.queue a.number a.unit
+    (x.more, x.is)
 
 pub comes_by_place : (o : TraceOptions) (c : ConfigNumbers) (trace : List Seen) (a b : EffectName)
     → comes_before o c trace a b ≡ comes_before_by_place o c trace a b

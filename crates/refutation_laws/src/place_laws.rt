@@ -4,8 +4,8 @@ ghost use Rattle.std.specs.Prelude.{◌&&◌, ◌++◌, ◌≡◌, Bool, List, N
 ghost use Rattle.nvme_model.specs.declared.config.ConfigNumbers.{ConfigNumbers};
 ghost use Rattle.trace.specs.declared.options.TraceOptions.{TraceOptions};
 ghost use Rattle.trace.specs.declared.seen.Seen.{Seen};
-ghost use Rattle.refutation_laws.specs.EffectOrders.{EffectName, comes_before};
-ghost use Rattle.refutation_laws.specs.Lines.{answer_in};
+ghost use Rattle.refutation_laws.specs.EffectOrders.{EffectName, comes_before, ends_before, last_entry};
+ghost use Rattle.refutation_laws.specs.Lines.{answer_in, before_entry};
 ghost use Rattle.refutation_laws.specs.Places.{answer_place, comes_before_by_place, is_among};
 ghost use Rattle.refutation_laws.specs.Told.{is_sure};
 ghost use Rattle.refutation_laws.specs.Slices.{is_covered, none_else};
@@ -19,6 +19,9 @@ pub fn places_tell_the_order()
         ≡ (if is_among (answer_place (more ++ trace) q j) (length trace) then answer_in (more ++ trace) q j else None) }
     ensures sure { (c : ConfigNumbers) (more trace : List Seen) (q j u : ℕ) → is_sure c trace q j u
         ≡ (is_sure c (more ++ trace) q j u && is_among (answer_place (more ++ trace) q j) (length trace)) }
+    ensures lines { (c : ConfigNumbers) (trace : List Seen) (a b : EffectName) → ends_before c trace a b
+        ≡ (is_sure c trace a.queue a.number a.unit && is_among (answer_place trace a.queue a.number)
+        (length (before_entry trace b.queue (last_entry trace b.queue b.number)))) }
     ensures order { (o : TraceOptions) (c : ConfigNumbers) (trace : List Seen) (a b : EffectName) →
         comes_before o c trace a b ≡ comes_before_by_place o c trace a b }
 {}
