@@ -1,12 +1,14 @@
 //! Completions that don't go with the entry that they answer: by tables of the lines before them, the oldest first.
 
-ghost use Rattle.std.specs.Prelude.{◌≡◌, ◌&&◌, List, length, option_copied, reverse, slice_get};
+ghost use Rattle.std.specs.Prelude.{◌≡◌, ◌&&◌, List, is_none, length, not, option_copied, reverse, slice_get};
 ghost use Rattle.nvme_model.specs.Commands.{is_read};
 ghost use Rattle.nvme_model.specs.EntryBytes.{block_count, sqe_fields};
+ghost use Rattle.nvme_model.specs.Statuses.{missing_fused, same_status};
 ghost use Rattle.host_laws.specs.Calls.{cqe_status};
 ghost use Rattle.trace.specs.declared.seen.Seen.{Seen};
-ghost use Rattle.refutation_laws.specs.LineRules.{answers_apart, has_wrong_data, has_wrong_second, is_apart_from};
-ghost use Rattle.refutation_laws.specs.LineRules.{names_no_entry, number_owes_other, owes_other_data, is_second_apart};
+ghost use Rattle.refutation_laws.specs.LineRules.{answers_apart, has_early_second, has_wrong_data, has_wrong_second};
+ghost use Rattle.refutation_laws.specs.LineRules.{is_apart_from, is_second_apart, is_second_early, names_no_entry};
+ghost use Rattle.refutation_laws.specs.LineRules.{number_owes_other, owes_other_data};
 ghost use Rattle.refutation_laws.specs.Lines.{answer_in, answered, published_in};
 ghost use Rattle.refutation_laws.specs.MayAnswer.{data_owed, has_fuse};
 ghost use Rattle.trace_answers.specs.Answers.{KnowsAnswers, answers_in};
@@ -177,4 +179,79 @@ pub(crate) fn has_wrong_second(tables: &TraceAnswers, trace: &[Seen], line: &Rea
 {
     let number = answered(tables, &line.cqe);
     is_second_apart(tables, trace, queue_of(&line.cqe), number, line)
+}
+
+fn answers_early(first: Option<&ReapedLine>, line: &ReapedLine) -> bool
+    ensures value { result ≡ (is_none (option_copied first.entry)
+        && not (same_status (cqe_status line.now.cqe) missing_fused)) }
+{
+    match first {
+        Some(_) => false,
+        None => !same_status(status_of(&line.cqe), Status::MISSING_FUSED),
+    }
+}
+
+fn answered_early(
+    tables: &TraceAnswers,
+    trace: &[Seen],
+    queue: u16,
+    number: u64,
+    line: &ReapedLine,
+) -> bool
+    ensures value { KnowsAnswers (reverse trace.now) (answers_in tables.now) → result ≡
+        (is_none (answer_in (reverse trace.now) queue number)
+        && not (same_status (cqe_status line.now.cqe) missing_fused)) }
+{
+    answers_early(tables.completion(trace, queue, number), line)
+}
+
+// Whether these entries are a pair, and the first isn't answered.
+fn are_early(
+    tables: &TraceAnswers,
+    trace: &[Seen],
+    queue: u16,
+    first: u64,
+    second: u64,
+    line: &ReapedLine,
+) -> bool
+    ensures value { KnowsAnswers (reverse trace.now) (answers_in tables.now) → result ≡
+        (has_fuse 1 (slice_get (published_in (reverse trace.now) queue) first)
+        && has_fuse 2 (slice_get (published_in (reverse trace.now) queue) second)
+        && is_none (answer_in (reverse trace.now) queue first)
+        && not (same_status (cqe_status line.now.cqe) missing_fused)) }
+{
+    let begins = entry_has_fuse(tables, trace, queue, first, 1);
+    let ends = entry_has_fuse(tables, trace, queue, second, 2);
+    let early = answered_early(tables, trace, queue, first, line);
+    begins && ends && early
+}
+
+fn is_second_early(
+    tables: &TraceAnswers,
+    trace: &[Seen],
+    queue: u16,
+    number: Option<u64>,
+    line: &ReapedLine,
+) -> bool
+    ensures value { KnowsAnswers (reverse trace.now) (answers_in tables.now) →
+        result ≡ is_second_early (reverse trace.now) queue number (cqe_status line.now.cqe) }
+{
+    match number {
+        Some(second) => {
+            if second == 0 {
+                return false;
+            }
+            are_early(tables, trace, queue, second - 1, second, line)
+        }
+        None => false,
+    }
+}
+
+/// Whether it answers the second command of a pair before its first.
+pub(crate) fn has_early_second(tables: &TraceAnswers, trace: &[Seen], line: &ReapedLine) -> bool
+    ensures value { KnowsAnswers (reverse trace.now) (answers_in tables.now) →
+        result ≡ has_early_second (reverse trace.now) line.now }
+{
+    let number = answered(tables, &line.cqe);
+    is_second_early(tables, trace, queue_of(&line.cqe), number, line)
 }

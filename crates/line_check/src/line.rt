@@ -8,7 +8,7 @@ ghost use Rattle.refutation_laws.specs.Lines.{is_tidy};
 ghost use Rattle.trace_answers.specs.Answers.{KnowsAnswers, answers_in};
 
 use crate::completions::{has_wrong_phase, names_wrong_queue, sets_unused_bits};
-use crate::entries::{has_wrong_data, has_wrong_second, names_no_entry};
+use crate::entries::{has_early_second, has_wrong_data, has_wrong_second, names_no_entry};
 use crate::heads::has_wrong_head;
 use crate::publishes::has_wrong_batch;
 use crate::statuses::has_wrong_status;
@@ -31,8 +31,9 @@ fn breaks_entry_rules(
     let head = has_wrong_head(alloc, config, tables, trace, line)?;
     let status = has_wrong_status(config, tables, trace, line);
     let second = has_wrong_second(tables, trace, line);
+    let early = has_early_second(tables, trace, line);
     let payload = has_wrong_data(tables, trace, line);
-    Ok(entry || head || status || second || payload)
+    Ok(entry || head || status || second || early || payload)
 }
 
 fn is_bad_by_itself(config: &Config, trace: &[Seen], line: &ReapedLine) -> bool
