@@ -21,7 +21,9 @@ pub mod EffectBlocks
 pub mod SliceLists
 pub mod Outside
 pub mod KeptEffects
+pub mod SliceMade
 pub mod SliceWalks
+pub mod WholeSlices
 pub mod ReadFields
 pub mod Postings
 pub mod PostOrders

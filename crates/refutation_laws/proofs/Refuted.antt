@@ -17,7 +17,7 @@ use Rattle.refutation_laws.specs.ReadRules.{is_bad_read_line}
 use Rattle.refutation_laws.specs.Refuted.{first_lines, is_refuted, lacks_order}
 use Rattle.refutation_laws.specs.Slices.{slice_of}
 use Rattle.refutation_laws.proofs.ReadRules.{nothing_reads}
-use Rattle.refutation_laws.proofs.SliceWalks.{order_as_read}
+use Rattle.refutation_laws.proofs.WholeSlices.{order_as_read}
 
 is_off : (b : Bool) → not b ≡ true → b ≡ false
 is_off true h = let f : false ≡ true = h in cc

@@ -1,13 +1,11 @@
--- The effects of a slice, in the order of a history, are an order of its pieces.
+-- A Block entry that is an effect, and what holds of a slice behind it.
 use Rattle.nvme_model.specs.Slots
 use Rattle.nvme_model.specs.Tickets
-use Rattle.std.proofs.Common.{◌≡◌, ℕ, ◌+◌, ◌<◌, Bool, true, false, not, ◌&&◌, ◌||◌, cond, List, [], ◌∷◌, ◌++◌}
-use Rattle.std.proofs.Common.{length, map, refl, sym, ap, ◌∙◌, subst, Option, Some, None, inl, inr}
-use Rattle.std.proofs.Common.{◌⊎◌, arith, eqb, slice_get}
-use Rattle.std.specs.List.{filter, flat_map, list_any, range_with_len}
+use Rattle.std.proofs.Common.{◌≡◌, ℕ, ◌+◌, Bool, true, false, not, ◌&&◌, ◌||◌, cond, List, [], ◌∷◌, refl, sym, ap}
+use Rattle.std.proofs.Common.{◌∙◌, subst, Option, Some, None, inl, inr, ◌⊎◌, arith, slice_get}
+use Rattle.std.specs.List.{list_any}
 use Rattle.std.proofs.lemmas.Bool.{and_parts, and_from, cases_Bool, cond-false, cond-true}
 use Rattle.nvme_model.specs.Array.{has_block, zeros}
-use Rattle.nvme_model.specs.Config.{is_accepted}
 use Rattle.nvme_model.specs.History.{Past}
 use Rattle.nvme_model.specs.Legal.{IsLegal}
 use Rattle.nvme_model.specs.Open.{unit_range}
@@ -23,143 +21,27 @@ use Rattle.nvme_model.proofs.Cut.{clash}
 use Rattle.host_laws.proofs.Elements.{In, same_some}
 use Rattle.slice_orders.specs.Orders
 use Rattle.refutation_laws.proofs.NamedEffects
-use Rattle.slice_orders.specs.Orders.{IsOrder, IsWay, has, held_by, is_held, is_met, is_whole, may_follow, written}
-use Rattle.slice_orders.specs.Orders.{writes_by}
+use Rattle.slice_orders.specs.Orders.{IsWay, has, held_by, may_follow, written, writes_by}
 use Rattle.slice_orders.specs.Pieces.{Piece, Slice}
-use Rattle.trace.specs.Observed.{Explains, observed}
+use Rattle.trace.specs.Observed.{observed}
 use Rattle.trace.specs.declared.options.TraceOptions.{TraceOptions}
 use Rattle.trace.specs.declared.seen.Seen.{Seen}
 use Rattle.refutation_laws.specs.Effects.{is_effect_of}
 use Rattle.refutation_laws.specs.Lines.{is_tidy}
 use Rattle.refutation_laws.specs.EffectOrders.{EffectName, comes_before}
-use Rattle.refutation_laws.specs.Slices.{answer_of, effects_of_command, is_block_of, is_named}
-use Rattle.refutation_laws.specs.Slices.{is_piece, numbers_where, piece_of, range_of}
-use Rattle.refutation_laws.specs.Told.{is_sure}
-use Rattle.refutation_laws.specs.Slices.{says_failed, slice_names, slice_of, surely_writes, ticket_of}
-use Rattle.refutation_laws.specs.Told.{says_done}
+use Rattle.refutation_laws.specs.Slices.{answer_of, is_block_of, is_named, is_piece, numbers_where, piece_of}
+use Rattle.refutation_laws.specs.Slices.{range_of, says_failed, surely_writes, ticket_of}
+use Rattle.refutation_laws.specs.Told.{is_sure, says_done}
 use Rattle.refutation_laws.proofs.EffectBlocks.{EffectHere, nothing_written, value_behind, yes_here}
 use Rattle.refutation_laws.proofs.KeptEffects.{HoldsAt, Kept, differs_met, done_is, finds_met, kept_written}
-use Rattle.refutation_laws.proofs.HeadOrders.{HasSlots, has_slots}
-use Rattle.refutation_laws.proofs.LineOrders.{sure_effect}
+use Rattle.refutation_laws.proofs.HeadOrders.{HasSlots}
 use Rattle.refutation_laws.proofs.OrderRules.{comes_first}
 use Rattle.refutation_laws.proofs.NamedEffects.{effect_says, none_before}
 use Rattle.refutation_laws.proofs.Outside.{OutLast, Part, effect_here, effect_named, from_before, name_at, named_here}
 use Rattle.refutation_laws.proofs.Outside.{outside_clash, part_legal, part_tail, to_whole}
-use Rattle.refutation_laws.proofs.ReadLines.{same_tidy}
-use Rattle.refutation_laws.proofs.ReadRules.{reads_first}
-use Rattle.refutation_laws.proofs.ReadSlices.{same_slice}
-use Rattle.refutation_laws.proofs.SliceLists.{AreDistinct, all_from, filter_holds, get_in, get_map, get_number, has_in}
-use Rattle.refutation_laws.proofs.SliceLists.{in_has, none_from, none_number, number_from, number_get, of_get_map}
-use Rattle.refutation_laws.proofs.SliceLists.{of_numbers, of_once, once_distinct, where_holds}
-
--- ---- what a history makes of a slice
-
--- it isn't sure, and says no
-abbrev pub is_skipped : ConfigNumbers → List Seen → Past → BlockLine → Bool
-is_skipped c trace past b =
-    let n = name_at past b in
-    not (is_sure c trace n.queue n.number n.unit)
-    && (has_compare (op (ticket_of trace n))
-    && not (all_equal (value past) (ticket_of trace n) (unit_range past b.ticket b.unit)))
-
--- the number of the piece that it is, where it is one
-abbrev pub number_at : ConfigNumbers → List Seen → List EffectName → Past → BlockLine → Option ℕ
-number_at c trace names past b =
-    cond (b.effect && not (is_skipped c trace past b)) (number_from 0 names (name_at past b)) None
-
-abbrev pub with_number : Option ℕ → List ℕ → List ℕ
-with_number None made = made
-with_number (Some i) made = i ∷ made
-
--- the pieces that were made, the newest first
-abbrev pub made : ConfigNumbers → List Seen → List EffectName → Past → List ℕ
-made c trace names [] = []
-made c trace names (Entry.Block b ∷ past) = with_number (number_at c trace names past b) (made c trace names past)
-made c trace names (_ ∷ past) = made c trace names past
-
--- the slice of these effects
-abbrev pub slice_by : TraceOptions → ConfigNumbers → List Seen → List EffectName → List ℕ → Slice
-slice_by options c trace names blocks = map (piece_of options c trace blocks names) names
-
--- ---- what holds at each place
-
--- each piece that was made is an effect before
-abbrev pub AllMade : ConfigNumbers → List Seen → List EffectName → Past → Type 0
-AllMade c trace names past = (i : ℕ) → In i (made c trace names past)
-    → (n : EffectName) × (before : Past) × (slice_get names i ≡ Some n) × (effect_named past n ≡ Some before)
-
--- each sure effect before is made
-abbrev pub SureMade : ConfigNumbers → List Seen → List EffectName → Past → Type 0
-SureMade c trace names past = (i : ℕ) (n : EffectName) (before : Past) → slice_get names i ≡ Some n
-    → is_sure c trace n.queue n.number n.unit ≡ true → effect_named past n ≡ Some before
-    → In i (made c trace names past)
-
-pub record Walk (options : TraceOptions) (c : ConfigNumbers) (trace : List Seen) (names : List EffectName)
-    (blocks : List ℕ) (past : Past) : Type 0 where
-  pub way : IsWay zeros (slice_by options c trace names blocks) (made c trace names past)
-  pub all : AllMade c trace names past
-  pub sure : SureMade c trace names past
-  pub holds : HoldsAt (held_by zeros (slice_by options c trace names blocks) (made c trace names past)) past
-      (OutLast c trace names past) blocks
-
--- ---- an entry that is no effect
-
--- an entry that leaves pieces, effects and blocks as they were
-carried : (options : TraceOptions) (c : ConfigNumbers) (trace : List Seen) (names : List EffectName) (blocks : List ℕ)
-    (past : Past) (e : Entry)
-    → made c trace names (e ∷ past) ≡ made c trace names past
-    → ((n : EffectName) → effect_named (e ∷ past) n ≡ effect_named past n)
-    → ((l : ℕ) → value (e ∷ past) l ≡ value past l) → Walk options c trace names blocks past
-    → Walk options c trace names blocks (e ∷ past)
-carried options c trace names blocks past e kept same unwritten w =
-    record {
-      way = subst (λ (xs : List ℕ). IsWay zeros (slice_by options c trace names blocks) xs) (sym kept) w.way;
-      all = λ i m.
-          let r = w.all i (subst (λ (xs : List ℕ). In i xs) kept m) in
-          (r.0, r.1, r.2, same r.0 ∙ r.3);
-      sure = λ i n before g s f.
-          subst (λ (xs : List ℕ). In i xs) (sym kept) (w.sure i n before g s (sym (same n) ∙ f));
-      holds = λ l h. elim (w.holds l h) [
-        | inl x ↦ inl (ap (λ (xs : List ℕ). held_by zeros (slice_by options c trace names blocks) xs l) kept
-            ∙ (x ∙ sym (unwritten l)))
-        | inr x ↦ inr (record {
-          by = x.by;
-          before = x.before;
-          is = same x.by ∙ x.is;
-          may = x.may;
-          out = x.out;
-          wrote = unwritten l ∙ x.wrote;
-          last = λ y f g s. x.last y f (sym (same y) ∙ g) s;
-        })
-      ];
-    }
-
-same_with : (options : TraceOptions) (c : ConfigNumbers) (trace : List Seen) (names : List EffectName)
-    (blocks : List ℕ) (past : Past)
-    (b : BlockLine) → b.effect ≡ false → Walk options c trace names blocks past
-    → Walk options c trace names blocks (Entry.Block b ∷ past)
-same_with options c trace names blocks past b e w = carried options c trace names blocks past
-    (Entry.Block b) kept same unwritten w
-  where
-    none : (x : Bool) → b.effect ≡ false → (b.effect && x) ≡ false
-    none x f = ap (λ (y : Bool). y && x) f
-
-    kept : made c trace names (Entry.Block b ∷ past) ≡ made c trace names past
-    kept = ap (λ (o : Option ℕ). with_number o (made c trace names past))
-        (cond-false (b.effect && not (is_skipped c trace past b)) (number_from 0 names (name_at past b)) None
-        (none (not (is_skipped c trace past b)) e))
-
-    same : (n : EffectName) → effect_named (Entry.Block b ∷ past) n ≡ effect_named past n
-    same n = ap (λ (x : Bool). cond (x && eqb (Tickets.ticket past b.ticket).queue n.queue
-        && eqb (Slots.fetched_before past b.ticket) n.number && eqb b.unit n.unit) (Some past) (effect_named past n)) e
-
-    unwritten : (l : ℕ) → value (Entry.Block b ∷ past) l ≡ value past l
-    unwritten l =
-        let k = Tickets.ticket past b.ticket in
-        let r = unit_range past b.ticket b.unit in
-        ap (λ (x : Bool). cond (x && has_block r l && writes (value past) k r) (write_data k l) (value past l)) e
-
--- ---- a Block entry that is an effect
+use Rattle.refutation_laws.proofs.SliceLists.{AreDistinct, get_in, get_map, get_number, in_has, none_from}
+use Rattle.refutation_laws.proofs.SliceLists.{none_number, number_from, number_get, where_holds}
+use Rattle.refutation_laws.proofs.SliceMade.{SureMade, Walk, is_skipped, made, number_at, slice_by, with_number}
 
 module _ (options : TraceOptions) (c : ConfigNumbers) (whole : Past) (names : List EffectName) (blocks : List ℕ)
     (slots : HasSlots c)
@@ -482,7 +364,7 @@ module _ (options : TraceOptions) (c : ConfigNumbers) (whole : Past) (names : Li
         subst (λ (o : Option ℕ). In i (with_number o so_far)) (sym number) (inl refl)
   ]
 
-  next : Before → Walk options c (observed c whole) names blocks (Entry.Block b ∷ past)
+  pub next : Before → Walk options c (observed c whole) names blocks (Entry.Block b ∷ past)
   next w = go (number_at c (observed c whole) names past b) refl
     where
       all_old : (i : ℕ) → In i so_far
@@ -524,94 +406,3 @@ module _ (options : TraceOptions) (c : ConfigNumbers) (whole : Past) (names : Li
                 (OutLast c (observed c whole) names (Entry.Block b ∷ past)) blocks) (sym same)
                 (holds_some i at.1 at.0 w);
           }
-
--- ---- the whole
-
-walk : (options : TraceOptions) (c : ConfigNumbers) (whole : Past) (names : List EffectName) (blocks : List ℕ)
-    → HasSlots c → IsLegal c whole
-    → is_tidy (observed c whole) ≡ true → AreDistinct names
-    → ((n : EffectName) → In n names → is_piece c (observed c whole) n ≡ true) → (past : Past) → Part whole past
-    → Walk options c (observed c whole) names blocks past
-walk options c whole names blocks s h d x pieces [] p =
-    record {
-      way = tt;
-      all = λ i m. absurd m;
-      sure = λ i n before e z f. absurd (let g : None ≡ Some before = f in cc);
-      holds = λ l m. inl refl;
-    }
-walk options c whole names blocks s h d x pieces (Entry.Block b ∷ past) p =
-    by b.effect refl (walk options c whole names blocks s h d x pieces past (part_tail whole (Entry.Block b) past p))
-  where
-    by : (z : Bool) → b.effect ≡ z → Walk options c (observed c whole) names blocks past
-        → Walk options c (observed c whole) names blocks (Entry.Block b ∷ past)
-    by true e w = next options c whole names blocks s h d x pieces past b p e w
-    by false e w = same_with options c (observed c whole) names blocks past b e w
-walk options c whole names blocks s h d x pieces (Entry.Publish e ∷ past) p =
-    let w = walk options c whole names blocks s h d x pieces past (part_tail whole (Entry.Publish e) past p) in
-    carried options c (observed c whole) names blocks past (Entry.Publish e) refl (λ n. refl) (λ l. refl) w
-walk options c whole names blocks s h d x pieces (Entry.Fetch e ∷ past) p =
-    let w = walk options c whole names blocks s h d x pieces past (part_tail whole (Entry.Fetch e) past p) in
-    carried options c (observed c whole) names blocks past (Entry.Fetch e) refl (λ n. refl) (λ l. refl) w
-walk options c whole names blocks s h d x pieces (Entry.Grant e ∷ past) p =
-    let w = walk options c whole names blocks s h d x pieces past (part_tail whole (Entry.Grant e) past p) in
-    carried options c (observed c whole) names blocks past (Entry.Grant e) refl (λ n. refl) (λ l. refl) w
-walk options c whole names blocks s h d x pieces (Entry.Post e ∷ past) p =
-    let w = walk options c whole names blocks s h d x pieces past (part_tail whole (Entry.Post e) past p) in
-    carried options c (observed c whole) names blocks past (Entry.Post e) refl (λ n. refl) (λ l. refl) w
-walk options c whole names blocks s h d x pieces (Entry.Reap e ∷ past) p =
-    let w = walk options c whole names blocks s h d x pieces past (part_tail whole (Entry.Reap e) past p) in
-    carried options c (observed c whole) names blocks past (Entry.Reap e) refl (λ n. refl) (λ l. refl) w
-
--- each sure piece is there
-all_sure : (options : TraceOptions) (c : ConfigNumbers) (whole : Past) (names : List EffectName) (blocks : List ℕ)
-    → IsLegal c whole
-    → is_tidy (observed c whole) ≡ true → Walk options c (observed c whole) names blocks whole
-    → is_whole (slice_by options c (observed c whole) names blocks) (made c (observed c whole) names whole) ≡ true
-all_sure options c whole names blocks h d w =
-    all_from (λ i. not (Orders.is_sure (slice_by options c (observed c whole) names blocks) i)
-    || has (made c (observed c whole) names whole) i)
-    (range_with_len 0 (length (slice_by options c (observed c whole) names blocks)))
-    (λ i j. each i (omega (arith, (of_numbers 0 (length (slice_by options c (observed c whole) names blocks)) i j).1))
-    (Orders.is_sure (slice_by options c (observed c whole) names blocks) i) refl)
-  where
-    each : (i : ℕ) → i < length (slice_by options c (observed c whole) names blocks) → (y : Bool)
-        → Orders.is_sure (slice_by options c (observed c whole) names blocks) i ≡ y
-        → (not y || has (made c (observed c whole) names whole) i) ≡ true
-    each i l false e = refl
-    each i l true e =
-        let x = of_get_map (piece_of options c (observed c whole) blocks names) names i l in
-        let piece = get_map (piece_of options c (observed c whole) blocks names) names i x.0 x.1 in
-        let sure : is_sure c (observed c whole) x.0.queue x.0.number x.0.unit ≡ true =
-        ap Orders.sure_by (sym piece) ∙ e in
-        let there = sure_effect c whole x.0.queue x.0.number x.0.unit h d sure in
-        has_in (made c (observed c whole) names whole) i (w.sure i x.0 there.0 x.1 sure there.1)
-
--- so the effects of a slice are an order of it
-an_order : (options : TraceOptions) (c : ConfigNumbers) (whole : Past) (commands : List (ℕ × ℕ)) (blocks : List ℕ)
-    → HasSlots c → IsLegal c whole
-    → is_tidy (observed c whole) ≡ true
-    → IsOrder zeros (slice_of options c (observed c whole) commands blocks)
-    (made c (observed c whole) (slice_names c (observed c whole) commands) whole)
-an_order options c whole commands blocks s h d =
-    let trace = observed c whole in
-    let some = flat_map (λ k. effects_of_command c trace k.0 k.1) commands in
-    let kept = filter (is_piece c trace) some in
-    let names = slice_names c trace commands in
-    let w = walk options c whole names blocks s h d (once_distinct kept)
-    (λ n i. filter_holds (is_piece c trace) some n (of_once kept n i)) whole ([], refl) in
-    (w.way, all_sure options c whole names blocks h d w)
-
--- also of the slice of a trace that is read of it
-pub order_as_read : (o : TraceOptions) (c : ConfigNumbers) (past : Past) (more trace : List Seen)
-    (commands : List (ℕ × ℕ)) (blocks : List ℕ) → o.contents_unknown ≡ false → is_accepted c ≡ true
-    → Explains o c past (more ++ trace) → is_tidy trace ≡ true
-    → (order : List ℕ) × IsOrder zeros (slice_of o c trace commands blocks) order
-order_as_read o c past more trace commands blocks known a x d =
-    let b = reads_first o c past more trace known x in
-    let tidy = same_tidy o (observed c b.start) trace b.reads ∙ d in (
-      made c (observed c b.start) (slice_names c (observed c b.start) commands) b.start,
-      subst (λ (slice : Slice). IsOrder zeros slice
-          (made c (observed c b.start) (slice_names c (observed c b.start) commands) b.start))
-          (same_slice o c (observed c b.start) trace commands blocks b.reads)
-          (an_order o c b.start commands blocks (has_slots c a) b.legal tidy),
-    )

@@ -1,5 +1,5 @@
 use Rattle.refutation_laws.proofs.Refuted.{none_lacks}
-use Rattle.refutation_laws.proofs.SliceWalks.{order_as_read}
+use Rattle.refutation_laws.proofs.WholeSlices.{order_as_read}
 use Rattle.refutation_laws.proofs.slice_laws.each_history_gives_an_order.Goals as goal
 
 pub returns : goal.returns
