@@ -1,8 +1,12 @@
-//! Tests by calls of slices and of refutations' texts: with memory enough, and at limits of their numbers and data.
+//! Tests by calls of slices, of refutations' texts and of what checks them: with memory enough, and at their limits.
 #![tactic(auto)]
 
 #[cfg(test)]
+mod effects;
+#[cfg(test)]
 mod limits;
+#[cfg(test)]
+mod lines;
 #[cfg(test)]
 mod pieces;
 #[cfg(test)]
