@@ -123,7 +123,7 @@ def certifies(program, history):
     if last:
         others = [([*trace[:last], other, *trace[last + 1 :]], 1, f"seen {last}: {what}") for other, what in changed(trace[last])]
         beside += others
-        alone.append((others[0][0], 1, f"not found: up to line {last + 1}: the phase tag isn't the one that is due"))
+        alone.append((others[0][0], 1, f"refuted: up to line {last + 1}: the phase tag isn't the one that is due"))
     for lines, status, said in beside:
         with tempfile.NamedTemporaryFile() as it:
             it.write(text_of(lines).encode("latin-1"))

@@ -59,10 +59,12 @@ enum vandrexu_status {
     VANDREXU_BAD_ENTRY = 106,     /* the data aren't just those of the entries */
     VANDREXU_BAD_LINE = 107,      /* no line of a history, or of the text that is read */
     VANDREXU_NOT_LEGAL = 108,     /* the history with this line isn't legal */
-    VANDREXU_NOT_EXPLAINED = 109, /* the history isn't legal, or hosts saw something else of it; or no history was found */
-    VANDREXU_BAD_HISTORY = 110,   /* the history beside a trace has a line that is none, or its configuration is refused */
+    VANDREXU_NOT_EXPLAINED = 109, /* the history isn't legal, or hosts saw something else of it; or no history explains it */
+    VANDREXU_BAD_HISTORY = 110,   /* what stands beside a trace has a line that is none, or its configuration is refused */
     VANDREXU_OTHER_CONFIG = 111,  /* a trace and a history that don't belong together */
-    VANDREXU_GAVE_UP = 112        /* the steps of a search were used up */
+    VANDREXU_GAVE_UP = 112,       /* the steps of a search were used up */
+    VANDREXU_NOT_FOUND = 126,     /* a search found neither a history nor a refutation */
+    VANDREXU_NOT_REFUTED = 127    /* the trace isn't refuted by this */
 };
 
 /* A handle lies in the caller's memory. It is zeros before its `_new` and after its `_free`. Between them the caller
@@ -247,10 +249,16 @@ uint32_t vandrexu_check_text(const uint8_t *history, size_t history_length, uint
 uint32_t vandrexu_certify_text(const uint8_t *trace, size_t trace_length, const uint8_t *history, size_t history_length,
                                uint8_t *out, size_t room, size_t *needed, uint64_t *line);
 
+/* Says whether a trace is refuted: 0 where it is, so that no legal history explains it, VANDREXU_NOT_REFUTED where it
+ * isn't by this refutation; VANDREXU_BAD_LINE with the first bad line of the trace, and 21 to 30 for its configuration;
+ * VANDREXU_BAD_HISTORY with the first bad line of the refutation; 11. */
+uint32_t vandrexu_refute_text(const uint8_t *trace, size_t trace_length, const uint8_t *refutation,
+                              size_t refutation_length, uint8_t *out, size_t room, size_t *needed, uint64_t *line);
+
 /* Looks for a history that explains a trace, in `steps` steps at most (casdisk takes 10,000,000): 0, and the history is at
- * the begin of `history`, *found its length; VANDREXU_NOT_EXPLAINED where none was found, of which nothing is promised, and
- * VANDREXU_GAVE_UP; VANDREXU_BAD_LINE with the first bad line of the trace, 21 to 30 and 11. VANDREXU_TOO_SMALL is for
- * either room. */
+ * the begin of `history`, *found its length; VANDREXU_NOT_EXPLAINED where there is none, and what refutes the trace is at
+ * the begin of `history`; VANDREXU_NOT_FOUND, of which nothing is promised, and VANDREXU_GAVE_UP; VANDREXU_BAD_LINE with
+ * the first bad line of the trace, 21 to 30 and 11. VANDREXU_TOO_SMALL is for either room. */
 uint32_t vandrexu_observe_text(const uint8_t *trace, size_t trace_length, uint64_t steps, uint8_t *history,
                                size_t history_room, size_t *found, uint8_t *out, size_t room, size_t *needed,
                                uint64_t *line);

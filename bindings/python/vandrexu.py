@@ -94,6 +94,8 @@ class Status(IntEnum):
     BAD_AREA = 123
     USED_NUMBER = 124
     USED_QUEUE = 125
+    NOT_FOUND = 126
+    NOT_REFUTED = 127
 
 
 WORDS: dict[Status, str] = {
@@ -137,9 +139,11 @@ WORDS: dict[Status, str] = {
     Status.BAD_LINE: "no line of a history",
     Status.NOT_LEGAL: "the history with this line isn't legal",
     Status.NOT_EXPLAINED: "the trace isn't explained",
-    Status.BAD_HISTORY: "the history beside the trace has a line that is none",
+    Status.BAD_HISTORY: "what stands beside the trace has a line that is none",
     Status.OTHER_CONFIG: "a trace and a history that don't belong together",
     Status.GAVE_UP: "the steps of the search were used up",
+    Status.NOT_FOUND: "neither a history nor a refutation was found",
+    Status.NOT_REFUTED: "the trace isn't refuted by this",
     Status.UNFINISHED: "what was fetched before isn't finished",
     Status.NO_HOST: "as many hosts were made as the disk was made for",
     Status.BAD_NUMBER: "a host has no number 0",
@@ -220,11 +224,12 @@ class NotLegal(Error):
 
 
 class NotExplained(Error):
-    """A history doesn't explain a trace, or none was found that does: status 109."""
+    """A history doesn't explain a trace, or none does, and `refutation` shows it: status 109."""
+    refutation: str | None = None
 
 
 class BadHistory(Error, ValueError):
-    """The history beside a trace has a line that is none, or its configuration is refused: status 110."""
+    """What stands beside a trace has a line that is none, or its configuration is refused: status 110."""
 
 
 class OtherConfig(Error, ValueError):
@@ -235,10 +240,19 @@ class GaveUp(Error):
     """The steps of a search were used up: status 112."""
 
 
+class NotFound(Error):
+    """A search found neither a history nor a refutation: status 126."""
+
+
+class NotRefuted(Error):
+    """The trace isn't refuted by this: status 127."""
+
+
 _ERRORS = {
     Status.NO_MEMORY: NoMemory, Status.NO_HANDLE: NoHandle, Status.NO_BLOCK: NoBlock, Status.BAD_LINE: BadLine,
     Status.NOT_LEGAL: NotLegal, Status.NOT_EXPLAINED: NotExplained, Status.BAD_HISTORY: BadHistory,
-    Status.OTHER_CONFIG: OtherConfig, Status.GAVE_UP: GaveUp, Status.BUSY: Busy, Status.CALL_BUSY: Busy,
+    Status.OTHER_CONFIG: OtherConfig, Status.GAVE_UP: GaveUp, Status.NOT_FOUND: NotFound,
+    Status.NOT_REFUTED: NotRefuted, Status.BUSY: Busy, Status.CALL_BUSY: Busy,
     Status.CALL_NO_MEMORY: NoMemory, Status.CALL_LENGTH: CallRefused, Status.CALL_TOO_LONG: CallRefused,
     Status.CALL_NO_ROOM: CallRefused, Status.CALL_SLOT_AREA: CallRefused, Status.CALL_NO_SERIAL: CallRefused,
 }
@@ -363,6 +377,7 @@ _ARGUMENTS = {
     "vandrexu_run_text": [c_char_p, c_size_t, c_uint8, *_TEXT],
     "vandrexu_check_text": [c_char_p, c_size_t, *_TEXT],
     "vandrexu_certify_text": [c_char_p, c_size_t, c_char_p, c_size_t, *_TEXT],
+    "vandrexu_refute_text": [c_char_p, c_size_t, c_char_p, c_size_t, *_TEXT],
     "vandrexu_observe_text": [c_char_p, c_size_t, c_uint64, _Bytes, c_size_t, POINTER(c_size_t), *_TEXT],
     "vandrexu_disk_new": [POINTER(RawConfig), c_uint16, _Disk],
     "vandrexu_disk_free": [_Disk],
@@ -1258,9 +1273,18 @@ def certify_text(trace: str | bytes, history: str | bytes) -> str:
     return _text("vandrexu_certify_text", trace, len(trace), history, len(history))
 
 
+def refute_text(trace: str | bytes, refutation: str | bytes) -> str:
+    """Says whether a trace is refuted (docs/OBSERVING.md), so that no legal history explains it, and returns the line
+    that says so. NotRefuted has the line that says why it isn't by this; BadLine is about the trace, BadHistory about
+    the refutation."""
+    trace, refutation = _bytes_of(trace), _bytes_of(refutation)
+    return _text("vandrexu_refute_text", trace, len(trace), refutation, len(refutation))
+
+
 def observe_text(trace: str | bytes, steps: int = 10_000_000) -> str:
-    """Looks for a history that explains a trace, in so many steps at most, and returns it. NotExplained, where none was
-    found, promises nothing; GaveUp says that the steps were used up.
+    """Looks for a history that explains a trace, in so many steps at most, and returns it. Where there is none,
+    NotExplained has what refutes the trace as `refutation`; NotFound says that neither was found, GaveUp that the steps
+    were used up.
 
     >>> publish = "publish 1 0000070001" + "0" * 118 + " -"
     >>> trace = f"config 8 1 1 0 0 1 4 4 8\\n{publish}\\nreap 1 00000000000000000100010007000100 -\\n"
@@ -1275,5 +1299,10 @@ def observe_text(trace: str | bytes, steps: int = 10_000_000) -> str:
         number = library.vandrexu_observe_text(trace, len(trace), steps, history, room, byref(found), out, words,
                                                byref(needed), byref(line))
         if number != Status.TOO_SMALL:
-            _told(number, line.value, bytes(out)[:needed.value].decode())
-            return bytes(history)[:found.value].decode()
+            found_text = bytes(history)[:found.value].decode()
+            try:
+                _told(number, line.value, bytes(out)[:needed.value].decode())
+            except NotExplained as why:
+                why.refutation = found_text
+                raise
+            return found_text

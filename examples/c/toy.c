@@ -173,10 +173,10 @@ static int judge(void)
     uint64_t line;
     uint32_t status = vandrexu_observe_text(seen, trace_length, 10000000, history, sizeof history, &found, words,
                                             sizeof words, &needed, &line);
-    if (status != VANDREXU_DONE && status != VANDREXU_NOT_EXPLAINED)
+    if (status != VANDREXU_DONE && status != VANDREXU_NOT_EXPLAINED && status != VANDREXU_NOT_FOUND)
         return 4;
     fwrite(words, 1, needed, stderr);
-    if (status == VANDREXU_NOT_EXPLAINED)
+    if (status != VANDREXU_DONE)
         return 1;
     status = vandrexu_certify_text(seen, trace_length, history, found, words, sizeof words, &needed, &line);
     return status == VANDREXU_DONE ? 0 : 4;

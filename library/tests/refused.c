@@ -36,6 +36,13 @@ static uint32_t observe(void)
     return vandrexu_observe_text(trace, trace_length, 100000, found, ROOM, &found_length, out, ROOM, &needed, &line);
 }
 
+static uint32_t refute(void)
+{
+    static const char one[] = "refutation\nlines 2\n";
+    uint32_t status = vandrexu_refute_text(trace, trace_length, (const uint8_t *)one, sizeof one - 1, out, ROOM, &needed, &line);
+    return status == VANDREXU_NOT_REFUTED ? VANDREXU_DONE : status;
+}
+
 static void fail(const char *name, long at, const char *what, uint32_t status)
 {
     fprintf(stderr, "refused.c: %s, allocation %ld: %s: %u\n", name, at, what, status);
@@ -96,7 +103,7 @@ int main(void)
     memcpy(history, out, needed);
     history_length = needed;
     see();
-    all += each("check", check) + each("certify", certify) + each("observe", observe);
+    all += each("check", check) + each("certify", certify) + each("refute", refute) + each("observe", observe);
     printf("allocations of calls about texts: %ld, refused and told: %zu\n", all, told_of);
     return told_of * 2 < (size_t)all;
 }

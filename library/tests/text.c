@@ -1,5 +1,5 @@
 /* Does with whole files, by the calls of vandrexu.h about texts, what casdisk does, prints what it prints, and ends with
- * its exit status: text run FILE, text check FILE, text certify TRACE HISTORY, text observe TRACE, whose history is
+ * its exit status: text run FILE, text check FILE, text certify TRACE HISTORY, text refute TRACE REFUTATION, text observe TRACE, whose history is
  * certified, too. The room for what is printed is first none, and then just what is needed. */
 #include "vandrexu.h"
 
@@ -54,6 +54,9 @@ static uint32_t observe(uint8_t *out, size_t room, size_t *needed, uint64_t *lin
         exit(9);
     if (status == VANDREXU_DONE && vandrexu_certify_text(a->bytes, a->length, found.bytes, wanted, words, sizeof words, &certified, line) != status)
         exit(9);
+    if (status == VANDREXU_NOT_EXPLAINED
+        && vandrexu_refute_text(a->bytes, a->length, found.bytes, wanted, words, sizeof words, &certified, line) != VANDREXU_DONE)
+        exit(9);
     return status;
 }
 
@@ -66,6 +69,8 @@ static uint32_t call(char what, uint8_t *out, size_t room, size_t *needed, uint6
         return observe(out, room, needed, line);
     if (what == 'c')
         return vandrexu_check_text(a->bytes, a->length, out, room, needed, line);
+    if (what == 'f')
+        return vandrexu_refute_text(a->bytes, a->length, b->bytes, b->length, out, room, needed, line);
     return vandrexu_certify_text(a->bytes, a->length, b->bytes, b->length, out, room, needed, line);
 }
 
@@ -77,6 +82,7 @@ static int told(uint32_t status, uint64_t line)
         return 0;
     case VANDREXU_NOT_LEGAL:
     case VANDREXU_NOT_EXPLAINED:
+    case VANDREXU_NOT_REFUTED:
         return 1;
     case VANDREXU_BAD_LINE:
         fprintf(stderr, "bad line %llu\n", (unsigned long long)line);
@@ -88,6 +94,8 @@ static int told(uint32_t status, uint64_t line)
         return 2;
     case VANDREXU_GAVE_UP:
         return 5;
+    case VANDREXU_NOT_FOUND:
+        return 6;
     case VANDREXU_NO_MEMORY:
         fprintf(stderr, "no memory\n");
         return 4;
@@ -102,12 +110,12 @@ int main(int argc, char **argv)
 {
     const char *word = argc < 3 ? "" : argv[1];
     const char what = strcmp(word, "run") == 0 ? 'r' : strcmp(word, "check") == 0 ? 'c' : strcmp(word, "observe") == 0 ? 'o'
-        : strcmp(word, "certify") == 0 ? 'e' : 0;
+        : strcmp(word, "certify") == 0 ? 'e' : strcmp(word, "refute") == 0 ? 'f' : 0;
     uint8_t nothing[1] = {77}, *out;
     size_t needed = 7, again = 7;
     uint64_t line = 7;
     uint32_t status;
-    if (what == 0 || (what == 'e') != (argc > 3))
+    if (what == 0 || (what == 'e' || what == 'f') != (argc > 3))
         return 9;
     for (int at = 2; at < argc && at < 4; at++)
         texts[at - 2] = file(argv[at]);

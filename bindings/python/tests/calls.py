@@ -273,6 +273,9 @@ class Calls(unittest.TestCase):
             (Status.BAD_HISTORY, 2, "", vandrexu.certify_text, trace, head + "none\n"),
             (Status.BAD_HISTORY, 1, "", vandrexu.certify_text, trace, other),
             (Status.OTHER_CONFIG, None, "", vandrexu.certify_text, trace, "config 9 1 1 0 0 1 4 4 8\n"),
+            (Status.NOT_REFUTED, None, "not refuted: line 2 may be right\n", vandrexu.refute_text, trace, "refutation\nlines 2\n"),
+            (Status.BAD_LINE, 2, "", vandrexu.refute_text, head + "none\n", "refutation\nlines 2\n"),
+            (Status.BAD_HISTORY, 1, "", vandrexu.refute_text, trace, "none\n"),
             (Status.GAVE_UP, None, "gave up\n", vandrexu.observe_text, trace, 0),
             (Status.BAD_LINE, 2, "", vandrexu.observe_text, head + "none\n"),
             (Status.BAD_PAIRS, None, "", vandrexu.observe_text, other),
@@ -281,7 +284,9 @@ class Calls(unittest.TestCase):
             error = self.refused(status, call, *arguments)
             self.assertEqual((error.line, error.text), (line, text), arguments)
         error = self.refused(Status.NOT_EXPLAINED, vandrexu.observe_text, wrong)
-        self.assertTrue(error.text.startswith("not found: "))
+        self.assertTrue(error.text.startswith("refuted: "))
+        self.assertEqual(error.refutation, "refutation\nlines 2\n")
+        self.assertEqual(vandrexu.refute_text(wrong, error.refutation), "refuted: the first 2 lines\n")
 
     def test_the_words_are_those_of_the_pages(self):
         checking, scripts = read("docs/CHECKING.md"), read("docs/SCRIPTS.md")

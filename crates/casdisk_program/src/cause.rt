@@ -10,6 +10,8 @@ pub enum Cause {
     ByteOrderMark,
     /// A carriage return.
     CarriageReturn,
+    /// A line without a byte.
+    EmptyLine,
     /// One more space, where a word of this form is due.
     Space(Form),
     /// The line ends, where a word of this form is due.
@@ -53,6 +55,7 @@ impl fmt::Display for Cause {
             Cause::CarriageReturn => {
                 f.write_str("a carriage return, due is a line feed alone at the end of a line")
             }
+            Cause::EmptyLine => f.write_str("an empty line, due is none"),
             Cause::Space(form) => write!(f, "a space too many, due is {form}"),
             Cause::Ends(form) => write!(f, "the line ends, due is {form}"),
             Cause::TooMany => f.write_str("a word too many, due is the end of the line"),

@@ -10,6 +10,7 @@ use nvme_model::config::{ConfigFault, ConfigNumbers};
 use std::alloc::Global;
 use std::fmt;
 use std::io::{Eprint, ErrorKind, Read};
+use trace::parse_option;
 
 /// Why a command failed; and the second line about it, where one was asked for and something is known.
 #[derive(Drop)]
@@ -76,6 +77,16 @@ impl fmt::Display for Quoted<'_> {
     }
 }
 
+// What is the matter with a line that is right by itself.
+fn misplaced(alloc: Global, grammar: Grammar, number: u64, text: &[u8]) -> Option<String> {
+    if grammar != Grammar::Trace || parse_option(text).is_none() {
+        return None;
+    }
+    format!(in alloc;
+        "line {number}: contents, statuses and ignore stand once each, in this order, before all that was seen, and contents with 15 queue pairs at most"
+    ).ok()
+}
+
 // The number and the place of a bad line, and why it is none.
 fn line_reason(
     alloc: Global,
@@ -90,7 +101,9 @@ fn line_reason(
             "line {number}, column {column}: the file ends, due is a line feed"
         ).ok();
     }
-    let reason = why_bad(alloc, grammar, text).ok()??;
+    let Some(reason) = why_bad(alloc, grammar, text).ok()? else {
+        return misplaced(alloc, grammar, number, text);
+    };
     if reason.cause == Cause::NoKind {
         let word = first_word(text);
         return format!(in alloc; "line {number}: no kind of step is called {}", Quoted(word)).ok();

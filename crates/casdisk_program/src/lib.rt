@@ -20,6 +20,7 @@ mod racing;
 mod randoms;
 mod reader;
 mod reason;
+mod refute;
 mod seeding;
 mod shrinking;
 mod slots;

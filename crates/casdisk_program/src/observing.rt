@@ -9,6 +9,22 @@ use std::fs;
 use std::io::{Print, Read, Write, sink, writer};
 use std::rt::Files;
 
+/// The files into which the history goes that explains a trace, or what refutes it, where they are asked for.
+#[derive(Clone, Copy)]
+pub(crate) struct ProofFiles<'a> {
+    pub(crate) witness: Option<&'a str>,
+    pub(crate) refutation: Option<&'a str>,
+}
+
+// The file into which what was found goes.
+fn file_for<'a>(files: ProofFiles<'a>, answer: TraceAnswer) -> Option<&'a str> {
+    match answer {
+        TraceAnswer::Explained => files.witness,
+        TraceAnswer::Refuted => files.refutation,
+        TraceAnswer::NotFound | TraceAnswer::GaveUp => None,
+    }
+}
+
 // Looks for a history that explains a trace, with what is written of it kept in memory, where alone writing can fail.
 fn observed<T: Read, V: Write, R: AllocGlobal>(
     rt: &R,
@@ -23,7 +39,7 @@ fn observed<T: Read, V: Write, R: AllocGlobal>(
     }
 }
 
-// Writes the text of the history that was found into its file, made anew, and after that what is said.
+// Writes the text of what was found into its file, made anew, and after that what is said.
 fn written<R: Files + Print + AllocGlobal>(
     rt: &R,
     found: Option<(&str, &[u8])>,
@@ -41,12 +57,11 @@ fn written<R: Files + Print + AllocGlobal>(
     Ok(())
 }
 
-// Looks for a history that explains a trace, and gives the status 0 where one was found, 1 where none was, 5 where the
-// steps were used up. Its text goes into the file of a witness where one is asked for, and nothing does where none was
-// found.
+// Looks for a history that explains a trace, and gives the status 0 where one was found, 1 where there is none, 5 where
+// the steps were used up, 6 where neither was found. What was found goes into the file that is asked for it.
 pub(crate) fn observe_file<R: Files + Input + Print + AllocGlobal>(
     rt: &R,
-    witness: Option<&str>,
+    files: ProofFiles<'_>,
     steps: u64,
     why: bool,
     trace: &str,
@@ -54,19 +69,14 @@ pub(crate) fn observe_file<R: Files + Input + Print + AllocGlobal>(
     let mut input = opened(rt, trace, why)?;
     let mut said = Vec::new(rt.alloc());
     let mut text = Vec::new(rt.alloc());
-    let answer = if witness.is_some() {
+    let answer = if files.witness.is_some() || files.refutation.is_some() {
         observed(rt, &mut input, &mut text, &mut said, steps)
     } else {
         observed(rt, &mut input, &mut sink(), &mut said, steps)
     };
     match answer {
         Ok(answer) => {
-            let file = if answer == TraceAnswer::Explained {
-                witness
-            } else {
-                None
-            };
-            let found = file.map(|file| (file, text.as_slice()));
+            let found = file_for(files, answer).map(|file| (file, text.as_slice()));
             written(rt, found, why, said.as_slice())?;
             Ok(answer.status())
         }

@@ -7,11 +7,12 @@ use crate::failure::{Failure, end_failure, end_fault, failure_of};
 use crate::grammar::Grammar;
 use crate::in_words::tell_file;
 use crate::input::{opened, size_of};
-use crate::observing::observe_file;
+use crate::observing::{ProofFiles, observe_file};
 use crate::output_buffer::BUFFER;
 use crate::racing::race_as_asked;
 use crate::randoms::random_file;
 use crate::reader::CountedReader;
+use crate::refute::refute_files;
 use crate::seeding::race_asked;
 use crate::shrinking::shrink_file;
 use crate::slots::{check_slots_file, explain_slots_file};
@@ -31,11 +32,12 @@ use std::thread::Threads;
 use std::time::Clock;
 use std::{env, io};
 
-/// Does what the words of the command line ask, and says with which status the program ends: 0 where it is done,
-/// 1 where a history isn't legal or doesn't explain a trace, a search found none, or a race gave none, 2 after a bad
-/// line, configuration or command line, 3 after a failed opening, reading or writing, 4 where a growth was refused or a
-/// thread couldn't be started, 5 where a search gave up. The words of a fault go to standard error; where that is a
-/// terminal, also how far a check or a race is that takes more than a second.
+/// Does what the words of the command line ask, and says with which status the program ends: 0 where it is done, 1
+/// where a history isn't legal or doesn't explain a trace, a trace is refuted or isn't by what is said to, or a race
+/// gave none, 2 after a bad line, configuration or command line, 3 after a failed opening, reading or writing, 4 where
+/// a growth was refused or a thread couldn't be started, 5 where a search gave up, 6 where it found nothing. The words
+/// of a fault go to standard error; where that is a terminal, also how far a check or a race is that takes more than a
+/// second.
 pub fn run_program<
     R: Threads + Wait + Sync + Files + Clock + Env + Input + Print + Eprint + AllocGlobal,
 >(rt: &R, terminal: bool) -> ExitCode {
@@ -107,12 +109,27 @@ fn finish<R: Threads + Wait + Sync + Files + Clock + Input + Print + Eprint + Al
             trace,
             history,
         } => return certify_files(rt, why, trace, history),
+        Asked::Refute {
+            why,
+            trace,
+            refutation,
+        } => return refute_files(rt, why, trace, refutation),
         Asked::Observe {
             witness,
+            refutation,
             steps,
             why,
             trace,
-        } => observe_file(rt, witness, steps, why, trace),
+        } => observe_file(
+            rt,
+            ProofFiles {
+                witness,
+                refutation,
+            },
+            steps,
+            why,
+            trace,
+        ),
         Asked::Tell { color, file } => tell_file(rt, color, file).map_err(Failure::from),
         Asked::Draw {
             from,

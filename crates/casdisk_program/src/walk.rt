@@ -111,6 +111,12 @@ pub(crate) fn first_wrong(grammar: Grammar, line: &[u8]) -> Wrong
             cause: Cause::ByteOrderMark,
         };
     }
+    if line.is_empty() {
+        return Wrong {
+            at: 0,
+            cause: Cause::EmptyLine,
+        };
+    }
     let Split { word, behind } = split_first_word(line);
     if let Some(wrong) = wrong_first(grammar, word) {
         return wrong;

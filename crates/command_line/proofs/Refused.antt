@@ -84,7 +84,8 @@ module _ (words : List Text) (e : Error) (none : are_words_taken words ≡ true 
   by_showing (Asked.Check follow area quiet why file) h = absurd h
   by_showing (Asked.Explain area why file) h = absurd h
   by_showing (Asked.Certify why trace history) h = absurd h
-  by_showing (Asked.Observe witness steps why trace) h = absurd h
+  by_showing (Asked.Refute why trace refutation) h = absurd h
+  by_showing (Asked.Observe witness refutation steps why trace) h = absurd h
   by_showing (Asked.Tell color file) h = absurd h
   by_showing (Asked.Draw from to blocks area trace why file) h = absurd h
   by_showing (Asked.Random seed lines config like) h = absurd h

@@ -104,17 +104,18 @@ pub record SaysExplain (rows : List Row) (area : Option SlotArea) (why : Bool) (
   pub reason : SaysFlag (codes "why") rows why
   pub reads : SaysText (codes "FILE") rows file
 
--- what the options of `certify` say
-pub record SaysCertify (rows : List Row) (why : Bool) (trace history : Text) : Type 0 where
+-- what the options of a command say that reads a trace and the file of this name
+pub record SaysBeside (name : Text) (rows : List Row) (why : Bool) (trace file : Text) : Type 0 where
   pub reason : SaysFlag (codes "why") rows why
   pub saw : SaysText (codes "TRACE") rows trace
-  pub reads : SaysText (codes "HISTORY") rows history
-  pub two : AreTwoInputs trace history
+  pub reads : SaysText name rows file
+  pub two : AreTwoInputs trace file
 
 -- what the options of `observe` say
-pub record SaysObserve (rows : List Row) (witness : Option (Bor Text)) (steps : ℕ) (why : Bool) (trace : Text)
-    : Type 0 where
+pub record SaysObserve (rows : List Row) (witness refutation : Option (Bor Text)) (steps : ℕ) (why : Bool)
+    (trace : Text) : Type 0 where
   pub writes : MaySayText (codes "witness") rows witness
+  pub refutes : MaySayText (codes "refutation") rows refutation
   pub limit : SaysNumber (codes "steps") rows steps
   pub reason : SaysFlag (codes "why") rows why
   pub saw : SaysText (codes "TRACE") rows trace
@@ -188,9 +189,11 @@ AsksBy name rows (Asked.Check follow area quiet why file) =
     (name ≡ codes "check") × SaysCheck rows follow area quiet why file.now
 AsksBy name rows (Asked.Explain area why file) = (name ≡ codes "explain") × SaysExplain rows area why file.now
 AsksBy name rows (Asked.Certify why trace history) =
-    (name ≡ codes "certify") × SaysCertify rows why trace.now history.now
-AsksBy name rows (Asked.Observe witness steps why trace) =
-    (name ≡ codes "observe") × SaysObserve rows witness steps why trace.now
+    (name ≡ codes "certify") × SaysBeside (codes "HISTORY") rows why trace.now history.now
+AsksBy name rows (Asked.Refute why trace refutation) =
+    (name ≡ codes "refute") × SaysBeside (codes "REFUTATION") rows why trace.now refutation.now
+AsksBy name rows (Asked.Observe witness refutation steps why trace) =
+    (name ≡ codes "observe") × SaysObserve rows witness refutation steps why trace.now
 AsksBy name rows (Asked.Tell color file) = (name ≡ codes "tell") × SaysTell rows color file.now
 AsksBy name rows (Asked.Draw from to blocks area trace why file) =
     (name ≡ codes "draw") × SaysDraw rows from to blocks area trace why file.now
@@ -233,8 +236,8 @@ Asks words asked = AsksByCommand words asked
 abbrev pub IsOther : Text → Type 0
 IsOther name =
     (name ≢ codes "run") × (name ≢ codes "check") × (name ≢ codes "explain") × (name ≢ codes "certify")
-    × (name ≢ codes "observe") × (name ≢ codes "race") × (name ≢ codes "tell") × (name ≢ codes "draw")
-    × (name ≢ codes "random") × (name ≢ codes "shrink")
+    × (name ≢ codes "refute") × (name ≢ codes "observe") × (name ≢ codes "race") × (name ≢ codes "tell")
+    × (name ≢ codes "draw") × (name ≢ codes "random") × (name ≢ codes "shrink")
 
 -- no file is named
 abbrev pub IsNoFile : List Row → Type 0
@@ -267,11 +270,11 @@ IsOneInput rows =
     (file : Text) × (first_of (codes "FILE") rows ≡ Some file)
     × (is_one_input (first_of (codes "trace") rows) file ≡ true)
 
--- no trace or no history is named, or both are standard input
-abbrev pub AreNoInputs : List Row → Type 0
-AreNoInputs rows =
-    (first_of (codes "TRACE") rows ≡ None) ⊎ (first_of (codes "HISTORY") rows ≡ None)
-    ⊎ ((first_of (codes "TRACE") rows ≡ Some (codes "-")) × (first_of (codes "HISTORY") rows ≡ Some (codes "-")))
+-- no trace or no file of this name is named, or both are standard input
+abbrev pub AreNoInputs : Text → List Row → Type 0
+AreNoInputs name rows =
+    (first_of (codes "TRACE") rows ≡ None) ⊎ (first_of name rows ≡ None)
+    ⊎ ((first_of (codes "TRACE") rows ≡ Some (codes "-")) × (first_of name rows ≡ Some (codes "-")))
 
 -- no trace is named, or no number of steps
 abbrev pub IsNoSearch : List Row → Type 0
@@ -295,12 +298,13 @@ AskNothing name rows =
     ⊎ ((name ≡ codes "check") × (IsNoFile rows ⊎ IsNoArea rows ⊎ FollowsArea rows))
     ⊎ ((name ≡ codes "explain") × (IsNoFile rows ⊎ IsNoArea rows))
     ⊎ ((name ≡ codes "race") × IsNoRace rows)
-    ⊎ ((name ≡ codes "certify") × AreNoInputs rows)
+    ⊎ ((name ≡ codes "certify") × AreNoInputs (codes "HISTORY") rows)
     ⊎ ((name ≡ codes "observe") × IsNoSearch rows)
     ⊎ ((name ≡ codes "tell") × IsNoFile rows)
     ⊎ ((name ≡ codes "draw") × (IsNoFile rows ⊎ IsNoArea rows ⊎ IsNoRange rows ⊎ IsOneInput rows))
     ⊎ ((name ≡ codes "random") × IsNoRandom rows)
     ⊎ ((name ≡ codes "shrink") × IsNoScript rows)
+    ⊎ ((name ≡ codes "refute") × AreNoInputs (codes "REFUTATION") rows)
     ⊎ IsOther name
 
 -- a text says why something is refused only where this holds

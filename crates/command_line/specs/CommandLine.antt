@@ -87,17 +87,25 @@ race_app =
     with_rule (with_rule (with_rule (with_turn_rules (with_race_rules (new_app (codes "race"))))
     (flag_rule (codes "trace"))) (flag_rule (codes "quiet"))) (flag_rule (codes "why"))
 
+-- a command with a trace and with the file of this name beside it
+abbrev pub beside_app : App → Text → App
+beside_app a name =
+    with_rule (with_rule (with_rule a (flag_rule (codes "why"))) (input_rule (codes "TRACE"))) (input_rule name)
+
 -- the command `certify` with its files
 abbrev pub certify_app : App
-certify_app =
-    with_rule (with_rule (with_rule (new_app (codes "certify")) (flag_rule (codes "why"))) (input_rule (codes "TRACE")))
-    (input_rule (codes "HISTORY"))
+certify_app = beside_app (new_app (codes "certify")) (codes "HISTORY")
+
+-- the command `refute` with its files
+abbrev pub refute_app : App
+refute_app = beside_app (new_app (codes "refute")) (codes "REFUTATION")
 
 -- the command `observe` with its options
 abbrev pub observe_app : App
 observe_app =
-    with_rule (with_rule (with_rule (with_rule (new_app (codes "observe")) (text_rule (codes "witness")))
-    (default_rule (codes "steps") (codes "10000000"))) (flag_rule (codes "why"))) (input_rule (codes "TRACE"))
+    with_rule (with_rule (with_rule (with_rule (with_rule (new_app (codes "observe")) (text_rule (codes "witness")))
+    (text_rule (codes "refutation"))) (default_rule (codes "steps") (codes "10000000"))) (flag_rule (codes "why")))
+    (input_rule (codes "TRACE"))
 
 -- the command `tell` with its options
 abbrev pub tell_app : App
@@ -138,9 +146,9 @@ top_app = let a = new_app (codes "casdisk") in
 abbrev pub casdisk_app : App
 casdisk_app =
     with_subcommand (with_subcommand (with_subcommand (with_subcommand (with_subcommand (with_subcommand
-    (with_subcommand (with_subcommand (with_subcommand (with_subcommand top_app run_app.top) check_app.top)
-    explain_app.top) race_app.top) certify_app.top) observe_app.top) tell_app.top) draw_app.top) random_app.top)
-    shrink_app.top
+    (with_subcommand (with_subcommand (with_subcommand (with_subcommand (with_subcommand top_app run_app.top)
+    check_app.top) explain_app.top) race_app.top) certify_app.top) refute_app.top) observe_app.top) tell_app.top)
+    draw_app.top) random_app.top) shrink_app.top
 
 -- the command that the words name, and what they give its options
 unfoldable pub subcommand_in : List Text → Option (Text × List Row)

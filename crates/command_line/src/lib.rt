@@ -3,7 +3,7 @@
 #![tactic(auto)]
 
 mod area;
-mod certify;
+mod beside;
 mod checking;
 mod drawing;
 mod observing;

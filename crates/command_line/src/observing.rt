@@ -13,17 +13,20 @@ use std::alloc::{AllocError, Global};
 
 const WITNESS: &str = "Write the history that was found into FILE";
 
+const REFUTATION: &str = "Write what refutes the trace into FILE";
+
 const STEPS: &str = "Steps of search, at most";
 
 const ABOUT: &str = "\
-Looks for a history that explains what hosts saw: prints 'explained', 'not found: ' and why, or 'gave up'";
+Looks for a history that explains what hosts saw: prints 'explained', 'refuted: ' and why, 'not found: ' or 'gave up'";
 
 const ABOUT_SEARCH: &str = "\
 A trace is what hosts saw of a controller, whoever's it was: see docs/OBSERVING.md. 'explained' is
-printed where a history was found that is legal and was seen as the trace. That none was found is no
-proof that there is none.
+printed where a history was found that is legal and was seen as the trace, 'refuted' where there is
+none. Both are proved. 'not found' proves nothing: neither a history was found nor a refutation.
 
-Exit status: 0 where one was found, 1 where none was, 5 where N steps of search didn't decide.";
+Exit status: 0 where a history was found, 1 where there is none, 5 where N steps of search didn't
+decide, 6 where neither was found.";
 
 pub(crate) fn observe_command<'a>(alloc: Global) -> Result<Command<'a>, AllocError>
     ensures { IfOk result (λ c. app_of c ≡ observe_app) }
@@ -32,6 +35,7 @@ pub(crate) fn observe_command<'a>(alloc: Global) -> Result<Command<'a>, AllocErr
         .about(ABOUT)
         .after_help(ABOUT_SEARCH);
     let command = with(alloc, command, "witness", Text("FILE"), WITNESS)?;
+    let command = with(alloc, command, "refutation", Text("FILE"), REFUTATION)?;
     let command = with(alloc, command, "steps", NumberOr("N", "10000000"), STEPS)?;
     let command = with(alloc, command, "why", Flag, WHY)?;
     with(alloc, command, "TRACE", Input, SEEN)
@@ -51,6 +55,7 @@ pub(crate) fn observe_asked<'a>(
     let trace = text_needed(alloc, matches, "TRACE", "error: no trace")?;
     Ok(Asked::Observe {
         witness: text_asked(matches, "witness"),
+        refutation: text_asked(matches, "refutation"),
         steps,
         why: flag_asked(matches, "why"),
         trace,

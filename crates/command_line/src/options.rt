@@ -12,6 +12,8 @@ use std::alloc::{AllocError, Global};
 
 pub(crate) const HISTORY: &str = "The history; - is standard input";
 
+pub(crate) const REFUTATION: &str = "What is said to refute it; - is standard input";
+
 pub(crate) const SEEN: &str = "What hosts saw; - is standard input";
 
 pub(crate) const WHY: &str = "Say why it failed, in a second line on standard error";

@@ -57,10 +57,17 @@ pub enum Asked<'a> {
         trace: &'a str,
         history: &'a str,
     },
-    /// To look for a history that explains what hosts saw, in so many steps of search at most, and to write it into a
-    /// file.
+    /// To compare what is said to refute a trace, in one file, with what hosts saw, in another.
+    Refute {
+        why: bool,
+        trace: &'a str,
+        refutation: &'a str,
+    },
+    /// To look for a history that explains what hosts saw, in so many steps of search at most, and to write it into one
+    /// file, or what refutes them into another.
     Observe {
         witness: Option<&'a str>,
+        refutation: Option<&'a str>,
         steps: u64,
         why: bool,
         trace: &'a str,

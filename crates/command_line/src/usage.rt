@@ -5,7 +5,7 @@ ghost use Rattle.clap.specs.Words.{app_of, found_of, kind_of, rows_of, with_subc
 ghost use Rattle.command_line.specs.Asking.{AreRefused, Asks, AsksBy, IsRaceInRange, IsRefusedBy, IsShownBy, IsToldBy};
 ghost use Rattle.command_line.specs.CommandLine.{casdisk_app, top_app};
 
-use crate::certify::{certify_asked, certify_command};
+use crate::beside::{certify_asked, certify_command, refute_asked, refute_command};
 use crate::checking::{check_asked, check_command, explain_asked, explain_command};
 use crate::drawing::{draw_asked, draw_command};
 use crate::observing::{observe_asked, observe_command};
@@ -26,7 +26,7 @@ step. Try one: casdisk run examples/one_block.script. Each line is described in 
 
 Exit status: 0 where all is done, 1 where a history isn't legal or explains no trace, 2 after a bad
 line, configuration or command line, 3 after a failed input or output, 4 without memory, 5 where a
-search gave up.";
+search gave up, 6 where it found nothing.";
 
 // The command with this one below it, which has no options for those below itself.
 fn with_command<'a>(
@@ -59,6 +59,7 @@ fn command<'a>(alloc: Global) -> Result<Command<'a>, AllocError>
     let command = with_command(command, explain_command(alloc))?;
     let command = with_command(command, race_command(alloc))?;
     let command = with_command(command, certify_command(alloc))?;
+    let command = with_command(command, refute_command(alloc))?;
     let command = with_command(command, observe_command(alloc))?;
     let command = with_command(command, tell_command(alloc))?;
     let command = with_command(command, draw_command(alloc))?;
@@ -82,6 +83,8 @@ fn command_asked<'a>(
         explain_asked(alloc, matches)
     } else if name == "certify" {
         certify_asked(alloc, matches)
+    } else if name == "refute" {
+        refute_asked(alloc, matches)
     } else if name == "observe" {
         observe_asked(alloc, matches)
     } else if name == "race" {

@@ -2,3 +2,4 @@ mod Found
 mod Wronging
 pub mod Told
 mod FirstTold
+mod BothRead

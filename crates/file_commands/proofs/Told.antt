@@ -24,11 +24,11 @@ unread NoMemory t left v w h = Keeps-refl w
 
 module _ (o : TraceOptions) (b c : ConfigNumbers) (things : List Seen) where
   -- the trace is this one
-  abbrev IsTrace : List ℕ → Type 0
+  abbrev pub IsTrace : List ℕ → Type 0
   IsTrace = HasTrace (λ p k xs. (p ≡ o) × (k ≡ b) × (xs ≡ things) × (c ≡ history_numbers p k))
 
   -- what holds of what was read holds of the trace
-  has_trace : (P : TraceOptions → ConfigNumbers → List Seen → Type 0) (t : Option (List ℕ)) → IfSome t IsTrace
+  pub has_trace : (P : TraceOptions → ConfigNumbers → List Seen → Type 0) (t : Option (List ℕ)) → IfSome t IsTrace
       → P o c things → IfSome t (HasTrace (λ p k xs. P p (history_numbers p k) xs))
   has_trace P None read holds = tt
   has_trace P (Some t) read holds =

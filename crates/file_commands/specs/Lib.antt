@@ -2,3 +2,4 @@ pub mod Texts
 pub mod Wrong
 pub mod Observing
 pub mod ToldText
+pub mod Refuting

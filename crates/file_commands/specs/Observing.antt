@@ -1,4 +1,4 @@
--- What is said of the text of a trace, and what is written of the history that explains it.
+-- What is said of the text of a trace, and what is written of the history that explains it, or of what refutes it.
 use Rattle.std.specs.Prelude.{◌++◌, ◌∷◌, [], codes, reverse, ℕ, Err, IfSome, List, Ok, Option, Result}
 use Rattle.std.specs.Io.KnownBytes.{Appends, IsAtEnd, Keeps}
 use Rattle.casdisk_texts.specs.Traces.{HasTrace, IsTraceUnread}
@@ -7,17 +7,21 @@ use Rattle.casdisk_texts.specs.declared.fault.RunFault.TheVariants.{BadConfig, B
 use Rattle.nvme_model.specs.History.{Past}
 use Rattle.nvme_model.specs.declared.config.ConfigNumbers.{ConfigNumbers}
 use Rattle.history.specs.Texts.{history_text}
+use Rattle.refutation.specs.Refutations.{Refutation}
+use Rattle.refutation.specs.Texts.{refutation_text}
+use Rattle.refutation_search.specs.Found.{Refutes}
 use Rattle.trace.specs.Aside.{history_numbers}
 use Rattle.trace.specs.Observed.{Explains}
 use Rattle.trace.specs.declared.options.TraceOptions.{TraceOptions}
 use Rattle.trace.specs.declared.seen.Seen.{Seen}
 use Rattle.file_commands.specs.declared.answer.TraceAnswer.{TraceAnswer}
-use Rattle.file_commands.specs.declared.answer.TraceAnswer.TheVariants.{Explained, GaveUp, NotFound}
+use Rattle.file_commands.specs.declared.answer.TraceAnswer.TheVariants.{Explained, GaveUp, NotFound, Refuted}
 
 -- the status with which the program ends after an answer
 abbrev pub answer_status : TraceAnswer → ℕ
 answer_status Explained = 0
-answer_status NotFound = 1
+answer_status Refuted = 1
+answer_status NotFound = 6
 answer_status GaveUp = 5
 
 -- the line where a history explains the trace
@@ -34,12 +38,19 @@ abbrev pub WritesWitness : TraceOptions → ConfigNumbers → List Seen → Opti
 WritesWitness o c things old new =
     (past : Past) × Explains o c past (reverse things) × Appends old new (history_text c (reverse past))
 
+-- These things, the oldest first, are refuted, and a writer has the text of a refutation behind what it had; so no
+-- legal history of this configuration is seen as them.
+abbrev pub WritesRefutation : TraceOptions → ConfigNumbers → List Seen → Option (List ℕ) → Option (List ℕ) → Type 0
+WritesRefutation o c things old new =
+    (r : Refutation) × Refutes o c (reverse things) r × Appends old new (refutation_text r)
+
 -- By what was answered on these things: a history that explains them was written as a witness, and then that it is so;
--- nothing was written as a witness; or a beginning of what there is to write.
+-- what refutes them was written; nothing was; or a beginning of what there is to write.
 abbrev pub AnswersTrace : TraceOptions → ConfigNumbers → List Seen → Result TraceAnswer RunFault →
     (witness witnessed old new : Option (List ℕ)) → Type 0
 AnswersTrace o c things (Ok Explained) witness witnessed old new =
     WritesWitness o c things witness witnessed × Appends old new explained_text
+AnswersTrace o c things (Ok Refuted) witness witnessed old new = WritesRefutation o c things witness witnessed
 AnswersTrace o c things (Ok NotFound) witness witnessed old new = Keeps witness witnessed
 AnswersTrace o c things (Ok GaveUp) witness witnessed old new = Keeps witness witnessed × Appends old new gave_up_text
 AnswersTrace o c things (Err Output) witness witnessed old new = Unit {0}

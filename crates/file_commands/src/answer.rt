@@ -8,7 +8,9 @@ ghost use Rattle.file_commands.specs.Observing.{answer_status};
 pub enum TraceAnswer {
     /// A history explains it.
     Explained,
-    /// No history was found, in all that there is to try.
+    /// No legal history explains it.
+    Refuted,
+    /// No history was found, in all that there is to try, and no refutation.
     NotFound,
     /// The steps were used up.
     GaveUp,
@@ -21,7 +23,8 @@ impl TraceAnswer {
     {
         match self {
             TraceAnswer::Explained => 0,
-            TraceAnswer::NotFound => 1,
+            TraceAnswer::Refuted => 1,
+            TraceAnswer::NotFound => 6,
             TraceAnswer::GaveUp => 5,
         }
     }

@@ -10,6 +10,9 @@ mod judging;
 mod observing;
 mod opening;
 mod reading;
+mod refute_fault;
+mod refuting;
+mod slice_words;
 mod telling;
 mod words;
 
@@ -19,4 +22,6 @@ pub use crate::explaining::{ExplainedSlots, explain_slots};
 pub use crate::fault::SlotsFault;
 pub use crate::judging::WrongStep;
 pub use crate::observing::observe_text;
+pub use crate::refute_fault::RefuteFault;
+pub use crate::refuting::{RefuteVerdict, refute_text};
 pub use crate::telling::tell_text;

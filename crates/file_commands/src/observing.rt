@@ -1,21 +1,30 @@
-//! The text of a trace, and a history that explains it.
+//! The text of a trace, and a history that explains it, or what refutes it.
 
-ghost use Rattle.std.specs.Prelude.{◌≡◌, ◌⊎◌, IfErr, OnOk, reverse};
+ghost use Rattle.std.specs.Prelude.{◌≡◌, ◌⊎◌, IfErr, IfOk, OnOk, reverse};
 ghost use Rattle.std.specs.Io.KnownBytes.{Appends};
 ghost use Rattle.casdisk_texts.specs.declared.fault.RunFault.{RunFault as Fault};
 ghost use Rattle.history.specs.Texts.{history_text};
+ghost use Rattle.refutation.specs.Texts.{refutation_text};
+ghost use Rattle.refutation_search.specs.Found.{Refutes};
 ghost use Rattle.trace.specs.Observed.{Explains};
+ghost use Rattle.trace_search.specs.Observed.{IsExplained};
 ghost use Rattle.file_commands.specs.Observing.{AnswersTrace, ObservesText};
 
 use crate::answer::TraceAnswer;
+use crate::slice_words::send_slice;
 use crate::words::send_reason;
 use casdisk_texts::{RunFault, Trace, read_trace};
 use history::{Config, Entry, PrintFault, print_history};
-use line_text::send;
+use line_text::{Word, send, send_words};
+use refutation::{Refutation, write_refutation};
+use refutation_search::{find_bad_line, find_on_blocks, find_refutation};
 use std::alloc::Global;
-use std::io::{Read, Write};
+use std::io::{Read, Result as IoResult, Write};
 use trace::{Seen, TraceOptions};
 use trace_search::{Observed, Unexplained, observe};
+
+// How many steps of search come first.
+const FEW_STEPS: u64 = 200_000;
 
 // Writes the history that was found.
 fn write_witness<V: Write>(
@@ -67,6 +76,18 @@ fn tell_explained<V: Write, W: Write>(
     Ok(TraceAnswer::Explained)
 }
 
+// Writes the text of a refutation.
+fn put_refutation<V: Write>(refutation: &Refutation, witness: &mut V) -> Result<(), RunFault>
+    ensures whole { OnOk result
+        (Appends (V.contents witness.old) (V.contents witness.new) (refutation_text refutation.now)) }
+    ensures fault { IfErr result (λ f. f ≡ Fault.Output) }
+{
+    match write_refutation(refutation, witness) {
+        Ok(()) => Ok(()),
+        Err(_) => Err(RunFault::Output),
+    }
+}
+
 // How many lines of the file stand before what was seen.
 fn lines_before(options: &TraceOptions) -> usize {
     let mut lines = 1;
@@ -92,7 +113,212 @@ fn in_file(options: &TraceOptions, reason: Unexplained) -> Unexplained {
     }
 }
 
-// Looks for a history that explains what was seen, and writes it and what is said.
+// Writes up to which line there is no history, and why; the commands of a refutation, where there is one.
+fn tell_reason<W: Write>(
+    trace: &Trace,
+    reason: Unexplained,
+    refutation: Option<&Refutation>,
+    writer: &mut W,
+) -> IoResult<()> {
+    let reason = in_file(&trace.options, reason);
+    match refutation {
+        Some(refutation) => {
+            let head = lines_before(&trace.options);
+            send_reason(b"refuted:", &reason, writer)?;
+            send_slice(
+                refutation,
+                trace.things.as_slice(),
+                head,
+                Some(&reason),
+                writer,
+            )?;
+        }
+        None => send_reason(b"not found:", &reason, writer)?,
+    }
+    send(writer, b"\n")
+}
+
+// Writes up to which line there is no history, and which commands' effects have no order.
+fn tell_slice<W: Write>(trace: &Trace, refutation: &Refutation, writer: &mut W) -> IoResult<()> {
+    let head = lines_before(&trace.options);
+    let line = refutation.lines().saturating_add(head as u64);
+    send_words(
+        writer,
+        &[Word::Text(b"refuted: up to line"), Word::Number(line)],
+    )?;
+    send(writer, b": ")?;
+    send_slice(refutation, trace.things.as_slice(), head, None, writer)?;
+    send(writer, b"\n")
+}
+
+// Writes what refutes things, and what is said.
+fn tell_refuted<V: Write, W: Write>(
+    trace: &Trace,
+    refutation: &Refutation,
+    witness: &mut V,
+    writer: &mut W,
+) -> Result<TraceAnswer, RunFault>
+    requires refutes { Refutes trace.now.options trace.now.history (reverse trace.now.things.items) refutation.now }
+    ensures told { AnswersTrace trace.now.options trace.now.history trace.now.things.items result
+        (V.contents witness.old) (V.contents witness.new) (W.contents writer.old) (W.contents writer.new) }
+{
+    put_refutation(refutation, witness)?;
+    match tell_slice(trace, refutation, writer) {
+        Ok(()) => Ok(TraceAnswer::Refuted),
+        Err(_) => Err(RunFault::Output),
+    }
+}
+
+// Looks for what refutes things where a search gave up, and writes it and what is said.
+fn tell_undecided<V: Write, W: Write>(
+    alloc: Global,
+    trace: &Trace,
+    witness: &mut V,
+    writer: &mut W,
+) -> Result<TraceAnswer, RunFault>
+    ensures told { AnswersTrace trace.now.options trace.now.history trace.now.things.items result
+        (V.contents witness.old) (V.contents witness.new) (W.contents writer.old) (W.contents writer.new) }
+{
+    let things = trace.things.as_slice();
+    let Ok(found) = find_on_blocks(alloc, &trace.options, &trace.history, things) else {
+        return Err(RunFault::NoMemory);
+    };
+    match found {
+        Some(refutation) => tell_refuted(trace, &refutation, witness, writer),
+        None => {
+            send_answer(b"gave up\n", writer)?;
+            Ok(TraceAnswer::GaveUp)
+        }
+    }
+}
+
+// Looks further for what refutes things of which no history was found, and writes what was found and what is said.
+fn tell_open<V: Write, W: Write>(
+    alloc: Global,
+    trace: &Trace,
+    reason: Unexplained,
+    witness: &mut V,
+    writer: &mut W,
+) -> Result<TraceAnswer, RunFault>
+    ensures told { AnswersTrace trace.now.options trace.now.history trace.now.things.items result
+        (V.contents witness.old) (V.contents witness.new) (W.contents writer.old) (W.contents writer.new) }
+{
+    let things = trace.things.as_slice();
+    let Ok(bad) = find_bad_line(alloc, &trace.options, &trace.history, things) else {
+        return Err(RunFault::NoMemory);
+    };
+    if let Some(refutation) = bad {
+        return tell_refuted(trace, &refutation, witness, writer);
+    }
+    let Ok(found) = find_on_blocks(alloc, &trace.options, &trace.history, things) else {
+        return Err(RunFault::NoMemory);
+    };
+    match found {
+        Some(refutation) => tell_refuted(trace, &refutation, witness, writer),
+        None => match tell_reason(trace, reason, None, writer) {
+            Ok(()) => Ok(TraceAnswer::NotFound),
+            Err(_) => Err(RunFault::Output),
+        },
+    }
+}
+
+// Looks for what refutes things of which no history was found, and writes it and what is said.
+fn tell_unfound<V: Write, W: Write>(
+    alloc: Global,
+    trace: &Trace,
+    reason: Unexplained,
+    witness: &mut V,
+    writer: &mut W,
+) -> Result<TraceAnswer, RunFault>
+    ensures told { AnswersTrace trace.now.options trace.now.history trace.now.things.items result
+        (V.contents witness.old) (V.contents witness.new) (W.contents writer.old) (W.contents writer.new) }
+{
+    let options = &trace.options;
+    let things = trace.things.as_slice();
+    let Ok(found) = find_refutation(alloc, options, &trace.history, things, reason.lines) else {
+        return Err(RunFault::NoMemory);
+    };
+    let Some(refutation) = found else {
+        return tell_open(alloc, trace, reason, witness, writer);
+    };
+    put_refutation(&refutation, witness)?;
+    match tell_reason(trace, reason, Some(&refutation), writer) {
+        Ok(()) => Ok(TraceAnswer::Refuted),
+        Err(_) => Err(RunFault::Output),
+    }
+}
+
+// Writes what a search found of what was seen, and what is said.
+fn tell_found<V: Write, W: Write>(
+    alloc: Global,
+    trace: &Trace,
+    found: Observed,
+    witness: &mut V,
+    writer: &mut W,
+) -> Result<TraceAnswer, RunFault>
+    requires explained { IsExplained trace.now.options trace.now.history (reverse trace.now.things.items) found }
+    ensures told { AnswersTrace trace.now.options trace.now.history trace.now.things.items result
+        (V.contents witness.old) (V.contents witness.new) (W.contents writer.old) (W.contents writer.new) }
+{
+    match found {
+        Observed::Explained(entries) => tell_explained(
+            alloc,
+            &trace.options,
+            &trace.history,
+            trace.things.as_slice(),
+            entries.as_slice(),
+            witness,
+            writer,
+        ),
+        Observed::NotFound(reason) => tell_unfound(alloc, trace, reason, witness, writer),
+        Observed::GaveUp => tell_undecided(alloc, trace, witness, writer),
+    }
+}
+
+// Looks for a history that explains what was seen, in so many steps at most.
+fn search(alloc: Global, trace: &Trace, steps: u64) -> Result<Observed, RunFault>
+    ensures explained { IfOk result
+        (IsExplained trace.now.options trace.now.history (reverse trace.now.things.items)) }
+    ensures fault { IfErr result (λ f. f ≡ Fault.NoMemory) }
+{
+    let things = trace.things.as_slice();
+    match observe(
+        alloc,
+        &trace.options,
+        &trace.config,
+        &trace.history,
+        things,
+        steps,
+    ) {
+        Ok(observed) => Ok(observed),
+        Err(_) => Err(RunFault::NoMemory),
+    }
+}
+
+// Looks for a line that breaks a rule by itself, and then for a history in all steps, and writes what was found and
+// what is said.
+fn tell_hard<V: Write, W: Write>(
+    alloc: Global,
+    trace: &Trace,
+    steps: u64,
+    witness: &mut V,
+    writer: &mut W,
+) -> Result<TraceAnswer, RunFault>
+    ensures told { AnswersTrace trace.now.options trace.now.history trace.now.things.items result
+        (V.contents witness.old) (V.contents witness.new) (W.contents writer.old) (W.contents writer.new) }
+{
+    let things = trace.things.as_slice();
+    let Ok(bad) = find_bad_line(alloc, &trace.options, &trace.history, things) else {
+        return Err(RunFault::NoMemory);
+    };
+    if let Some(refutation) = bad {
+        return tell_refuted(trace, &refutation, witness, writer);
+    }
+    let found = search(alloc, trace, steps)?;
+    tell_found(alloc, trace, found, witness, writer)
+}
+
+// Looks for a history that explains what was seen, in a few steps first, and writes what was found and what is said.
 fn tell_trace<V: Write, W: Write>(
     alloc: Global,
     trace: &Trace,
@@ -103,37 +329,26 @@ fn tell_trace<V: Write, W: Write>(
     ensures told { AnswersTrace trace.now.options trace.now.history trace.now.things.items result
         (V.contents witness.old) (V.contents witness.new) (W.contents writer.old) (W.contents writer.new) }
 {
-    let Trace {
-        config,
-        options,
-        history,
-        things,
-    } = trace;
-    match observe(alloc, options, config, history, things.as_slice(), steps) {
-        Err(_) => Err(RunFault::NoMemory),
-        Ok(Observed::Explained(entries)) => tell_explained(
-            alloc,
-            options,
-            history,
-            things.as_slice(),
-            entries.as_slice(),
-            witness,
-            writer,
-        ),
-        Ok(Observed::NotFound(reason)) => match send_reason(&in_file(options, reason), writer) {
-            Ok(()) => Ok(TraceAnswer::NotFound),
-            Err(_) => Err(RunFault::Output),
-        },
-        Ok(Observed::GaveUp) => {
-            send_answer(b"gave up\n", writer)?;
-            Ok(TraceAnswer::GaveUp)
+    let found = search(alloc, trace, steps.min(FEW_STEPS))?;
+    match found {
+        Observed::GaveUp => tell_hard(alloc, trace, steps, witness, writer),
+        Observed::NotFound(_) => {
+            // (which first lines have no history is told by all steps)
+            let found = search(alloc, trace, steps)?;
+            tell_found(alloc, trace, found, witness, writer)
+        }
+        Observed::Explained(entries) => {
+            let found = Observed::Explained(entries);
+            tell_found(alloc, trace, found, witness, writer)
         }
     }
 }
 
 /// Reads a trace to its reader's end, looks in so many steps at most for a history that explains it, writes that one's
-/// text as a witness, and then one line: `explained` where a history was written that is legal and was seen as the
-/// trace; `not found: ` and why, of which nothing is promised; or `gave up`.
+/// text as a witness, or the text of what refutes the trace, and then one line: `explained` where a history was written
+/// that is legal and was seen as the trace; `refuted: ` and why, where a refutation was written, so that there is no
+/// such history; `not found: ` and why, where neither was found; or `gave up`. Of the words of a reason nothing is
+/// promised.
 ///
 /// # Errors
 ///

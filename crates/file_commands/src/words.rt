@@ -25,21 +25,37 @@ fn command_text(command: CommandName) -> &'static [u8] {
     }
 }
 
-// Writes which command it is: `the Read with CID 7 of queue 1 (line 12)`.
-fn send_command<W: Write>(reason: &Unexplained, writer: &mut W) -> IoResult<()> {
+/// Writes which command it is: `the Read with CID 7 of queue 1 (line 12)`.
+pub(crate) fn send_named<W: Write>(
+    text: &[u8],
+    cid: u16,
+    queue: u16,
+    line: usize,
+    writer: &mut W,
+) -> IoResult<()> {
     send_words(
         writer,
         &[
-            Word::Text(command_text(reason.command)),
+            Word::Text(text),
             Word::Text(b"with CID"),
-            Word::Number(u64::from(reason.cid)),
+            Word::Number(u64::from(cid)),
             Word::Text(b"of queue"),
-            Word::Number(u64::from(reason.queue)),
+            Word::Number(u64::from(queue)),
             Word::Text(b"(line"),
-            Word::Number(reason.published as u64),
+            Word::Number(line as u64),
         ],
     )?;
     send(writer, b")")
+}
+
+fn send_command<W: Write>(reason: &Unexplained, writer: &mut W) -> IoResult<()> {
+    send_named(
+        command_text(reason.command),
+        reason.cid,
+        reason.queue,
+        reason.published,
+        writer,
+    )
 }
 
 // Writes that no command with this identifier is out.
@@ -94,16 +110,20 @@ fn send_why<W: Write>(reason: &Unexplained, writer: &mut W) -> IoResult<()> {
     }
 }
 
-/// Writes `not found: `, up to which line of the file, and why; lines are numbered as in the file.
-pub(crate) fn send_reason<W: Write>(reason: &Unexplained, writer: &mut W) -> IoResult<()> {
+/// Writes these words, up to which line of the file, and why; lines are numbered as in the file.
+pub(crate) fn send_reason<W: Write>(
+    words: &[u8],
+    reason: &Unexplained,
+    writer: &mut W,
+) -> IoResult<()> {
     send_words(
         writer,
         &[
-            Word::Text(b"not found: up to line"),
+            Word::Text(words),
+            Word::Text(b"up to line"),
             Word::Number(reason.lines as u64),
         ],
     )?;
     send(writer, b": ")?;
-    send_why(reason, writer)?;
-    send(writer, b"\n")
+    send_why(reason, writer)
 }

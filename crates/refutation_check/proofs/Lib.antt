@@ -3,4 +3,14 @@ pub mod Places
 pub mod Together
 pub mod Units
 pub mod SlicePlaces
-pub mod Ends
+pub mod FirstLines
+pub mod HeadPlaces
+pub mod Orders
+pub mod Named
+pub mod EntryData
+pub mod SliceBlocks
+pub mod SliceEffects
+pub mod PostPlaces
+pub mod SlicePieces
+pub mod Kept
+pub mod Leavers

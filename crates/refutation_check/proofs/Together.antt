@@ -35,7 +35,7 @@ added xs ys true = length-append xs ys
 added xs ys false = omega (arith, length-append xs [])
 
 -- the place of an entry that the newest line publishes
-newer : (p : PublishLine) (trace : List Seen) (q k : ℕ) → count trace q ≤ k → k < count (Seen.Published p ∷ trace) q
+pub newer : (p : PublishLine) (trace : List Seen) (q k : ℕ) → count trace q ≤ k → k < count (Seen.Published p ∷ trace) q
     → entry_place (Seen.Published p ∷ trace) q k
     ≡ Some (record { line = length trace; place = k - count trace p.queue })
 newer p trace q k low high = by (p.queue == q) refl
@@ -59,7 +59,7 @@ newer p trace q k low high = by (p.queue == q) refl
         absurd (omega arith)
 
 -- and of one that earlier lines publish, or none
-older : (p : PublishLine) (trace : List Seen) (q k : ℕ)
+pub older : (p : PublishLine) (trace : List Seen) (q k : ℕ)
     → (k < count trace q) ⊎ (count (Seen.Published p ∷ trace) q ≤ k)
     → entry_place (Seen.Published p ∷ trace) q k ≡ entry_place trace q k
 older p trace q k h = by (p.queue == q) refl

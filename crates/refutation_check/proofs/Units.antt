@@ -12,7 +12,7 @@ use Rattle.refutation_laws.specs.Lines.{published_in}
 use Rattle.refutation_laws.specs.Told.{told_units}
 use Rattle.refutation_check.specs.Commands.{entry_op, entry_units, found_last, found_units}
 
-abbrev no_command : Submission
+abbrev pub no_command : Submission
 no_command = record { entry = []; payload = [] }
 
 -- they are those of its entry
@@ -20,7 +20,7 @@ entry_told : (c : ConfigNumbers) (trace : List Seen) (q j : ℕ)
     → told_units c trace q j ≡ entry_units c (get_or (published_in trace q) j no_command)
 entry_told c trace q j = refl
 
-none_there : (xs : List Submission) (j : ℕ) → slice_get xs j ≡ None → get_or xs j no_command ≡ no_command
+pub none_there : (xs : List Submission) (j : ℕ) → slice_get xs j ≡ None → get_or xs j no_command ≡ no_command
 none_there [] j e = refl
 none_there (x ∷ xs) zero e = absurd (let f : Some x ≡ None = e in cc)
 none_there (x ∷ xs) (suc j) e = none_there xs j e

@@ -1,3 +1,11 @@
 pub mod Answers
 pub mod Counting
 pub mod Commands
+pub mod ToldHeads
+pub mod Known
+pub mod Fits
+pub mod Collected
+pub mod Leaving
+pub mod EntryData
+pub mod SliceEffects
+pub mod Posts

@@ -2,6 +2,8 @@
 
 ghost use Rattle.std.specs.Prelude.{◌≡◌, ◌≤◌, ◌+◌, IfOk, option_copied};
 ghost use Rattle.nvme_model.specs.Cut.{cut};
+ghost use Rattle.nvme_model.specs.Operations.{has_write};
+ghost use Rattle.refutation_laws.specs.Slices.{looks};
 ghost use Rattle.refutation_check.specs.Commands.{entry_op, entry_units, found_units};
 
 use entry_codec::decode_sqe;
@@ -20,6 +22,26 @@ pub fn op_of(entry: &Submission) -> Option<Op>
         1 => Some(Op::Pair),
         2 => None,
         _ => fields.operation(),
+    }
+}
+
+/// Whether it writes blocks.
+pub(crate) fn has_write(op: Option<Op>) -> bool
+    ensures value { result ≡ has_write op }
+{
+    match op {
+        Some(Op::Write | Op::WriteZeroes | Op::Pair) => true,
+        Some(Op::Read | Op::Compare) | None => false,
+    }
+}
+
+/// Whether it reads or compares blocks.
+pub(crate) fn looks(op: Option<Op>) -> bool
+    ensures value { result ≡ looks op }
+{
+    match op {
+        Some(Op::Read | Op::Compare | Op::Pair) => true,
+        Some(Op::Write | Op::WriteZeroes) | None => false,
     }
 }
 

@@ -4,26 +4,28 @@ ghost use Rattle.std.specs.Prelude.{◌≡◌, ◌<◌, ◌≤◌, length, not, 
 ghost use Rattle.nvme_model.specs.Completions.{phase};
 ghost use Rattle.nvme_model.specs.Config.{completion_queue};
 ghost use Rattle.refutation_check.specs.Counting.{is_reaped_from};
-ghost use Rattle.refutation_laws.specs.LineRules.{has_wrong_phase, names_wrong_queue, sets_unused_bits};
+ghost use Rattle.refutation_laws.specs.LineRules.{has_wrong_phase, names_wrong_queue};
 ghost use Rattle.refutation_laws.specs.Lines.{reaped_in};
+ghost use Rattle.refutation_laws.specs.ReadRules.{sets_read_bits};
 
 use crate::bytes::queue_of;
 use crate::fields::{is_clean, phase_of};
 use crate::publishes::no_queue;
 use history::Config;
-use trace::{ReapedLine, Seen};
+use trace::{ReapedLine, Seen, TraceOptions, read_completion};
 
-fn completion_queue(config: &Config, queue: u16) -> u16
+/// The completion queue that a submission queue uses.
+pub(crate) fn completion_queue(config: &Config, queue: u16) -> u16
     ensures value { result ≡ completion_queue config.now queue }
 {
     queue.saturating_sub(1) % config.numbers().cqs + 1
 }
 
-/// Whether a bit is set that this profile leaves zero.
-pub(crate) fn sets_unused_bits(line: &ReapedLine) -> bool
-    ensures value { result ≡ sets_unused_bits line.now }
+/// Whether a bit is set, as options read it, that this profile leaves zero.
+pub(crate) fn sets_read_bits(options: &TraceOptions, line: &ReapedLine) -> bool
+    ensures value { result ≡ sets_read_bits options.now line.now }
 {
-    !is_clean(&line.cqe)
+    !is_clean(&read_completion(options, &line.cqe))
 }
 
 /// Whether it names no submission queue that uses its completion queue.

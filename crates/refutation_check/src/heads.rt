@@ -67,8 +67,8 @@ fn least_of(config: &Config, tables: &TraceAnswers, line: &ReapedLine, least: u6
     next_at(config.numbers().sq_size, least.max(own), head_of(&line.cqe))
 }
 
-// How many entries of a queue were fetched at least, behind one more completion.
-fn least_behind(
+/// How many entries of a queue were fetched at least, behind one more completion.
+pub(crate) fn least_behind(
     config: &Config,
     tables: &TraceAnswers,
     trace: &[Seen],

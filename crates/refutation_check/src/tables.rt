@@ -58,8 +58,12 @@ pub(crate) fn count_of(counts: &HashMap<u16, u64>, queue: u16) -> u64
     counts.get(&queue).copied().unwrap_or(0)
 }
 
-// Counts one more of a queue.
-fn add_one(counts: &mut HashMap<u16, u64>, queue: u16) -> Result<(), NoMemory>
+/// Counts one more of a queue.
+///
+/// # Errors
+///
+/// `NoMemory` alone.
+pub(crate) fn add_one(counts: &mut HashMap<u16, u64>, queue: u16) -> Result<(), NoMemory>
     ensures ok { OnOk result ((q : ℕ) →
         unwrap_or (get nat_eq counts.new q) 0 ≡ unwrap_or (get nat_eq counts.old q) 0 + (if queue == q then 1 else 0)) }
     ensures few { OnOk result (unwrap_or (get nat_eq counts.new queue) 0 < 2 ^ 64) }

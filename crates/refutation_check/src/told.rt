@@ -13,7 +13,7 @@ use nvme_model::status::Status;
 use std::alloc::{AllocError as NoMemory, Global};
 use trace::{ReapedLine, Seen};
 
-fn says_done(answer: Option<&ReapedLine>) -> bool
+pub(crate) fn says_done(answer: Option<&ReapedLine>) -> bool
     ensures value { result ≡ says_done (option_copied answer.entry) }
 {
     match answer {
@@ -22,7 +22,8 @@ fn says_done(answer: Option<&ReapedLine>) -> bool
     }
 }
 
-fn says_differs(answer: Option<&ReapedLine>) -> bool
+/// Whether Compare Failure was seen.
+pub(crate) fn says_differs(answer: Option<&ReapedLine>) -> bool
     ensures value { result ≡ says_differs (option_copied answer.entry) }
 {
     match answer {

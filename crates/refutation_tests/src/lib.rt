@@ -1,8 +1,10 @@
-//! Tests by calls of slices, of refutations' texts and of what checks them: with memory enough, and at their limits.
+//! Tests by calls of slices, refutations' texts, and what finds and checks them: with ample memory, at limits too.
 #![tactic(auto)]
 
 #[cfg(test)]
 mod effects;
+#[cfg(test)]
+mod finding;
 #[cfg(test)]
 mod limits;
 #[cfg(test)]
@@ -10,6 +12,10 @@ mod lines;
 #[cfg(test)]
 mod pieces;
 #[cfg(test)]
+mod refuting;
+#[cfg(test)]
 mod rows;
 #[cfg(test)]
 mod texts;
+#[cfg(test)]
+mod traces;

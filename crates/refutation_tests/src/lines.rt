@@ -1,12 +1,12 @@
 //! Lines behind one Flush with CID 5 on submission queue 1, and behind none.
 
-use history::Config;
-use refutation_check::is_bad_line;
+use crate::traces::{config, read_trace};
+use refutation_check::is_bad_read_line;
 use std::alloc::Global;
 use std::test::Fail;
-use trace::{Seen, parse_seen};
+use trace::TraceOptions;
 
-const FLUSH: &[u8] =
+pub(crate) const FLUSH: &[u8] =
     b"publish 1 00000500010000000000000000000000000000000000000000000000000000000000000000000000000000000000000000000000000000000000000000000000 -";
 
 const NO_QUEUE: &[u8] =
@@ -14,13 +14,13 @@ const NO_QUEUE: &[u8] =
 
 const RIGHT: &[u8] = b"reap 1 00000000000000000100010005000100 -";
 
-const PHASE: &[u8] = b"reap 1 00000000000000000100010005000000 -";
+pub(crate) const PHASE: &[u8] = b"reap 1 00000000000000000100010005000000 -";
 
 const CID: &[u8] = b"reap 1 00000000000000000100010006000100 -";
 
 const HEAD_BEHIND: &[u8] = b"reap 1 00000000000000000000010005000100 -";
 
-const HEAD_AHEAD: &[u8] = b"reap 1 00000000000000000200010005000100 -";
+pub(crate) const HEAD_AHEAD: &[u8] = b"reap 1 00000000000000000200010005000100 -";
 
 const NO_SLOT: &[u8] = b"reap 1 00000000000000000400010005000100 -";
 
@@ -32,19 +32,21 @@ const RETRY: &[u8] = b"reap 1 00000000000000000100010005000180 -";
 
 const STATUS: &[u8] = b"reap 1 00000000000000000100010005000B05 -";
 
+const FAULT: &[u8] = b"reap 1 00000000000000000100010005000300 -";
+
+const FAULT_RETRY: &[u8] = b"reap 1 00000000000000000100010005000380 -";
+
 const DATA: &[u8] = b"reap 1 00000000000000000100010005000100 A1";
 
-// Whether the last of these lines is bad.
+// Whether the last of these lines is bad, as options read it.
+fn is_bad_read(alloc: Global, options: &TraceOptions, lines: &[&[u8]]) -> Result<bool, Fail> {
+    let config = config()?;
+    let trace = read_trace(alloc, lines)?;
+    Ok(is_bad_read_line(alloc, options, &config, trace.as_slice())?)
+}
+
 fn is_bad(alloc: Global, lines: &[&[u8]]) -> Result<bool, Fail> {
-    let config = Config::new(8, 1, 1, 0, 0, 3, 4, 4, 8)?;
-    let mut trace: Vec<Seen> = Vec::new(alloc);
-    for line in lines {
-        let Ok(seen) = parse_seen(alloc, line) else {
-            return Err(Fail::from("not read"));
-        };
-        trace.push(seen)?;
-    }
-    Ok(is_bad_line(alloc, &config, trace.as_slice())?)
+    is_bad_read(alloc, &TraceOptions::none(), lines)
 }
 
 #[test]
@@ -72,8 +74,48 @@ fn lines_that_are_bad_by_their_entries(rt: HostRuntime) -> Result<(), Fail> {
     let alloc = rt.alloc();
     assert!(rt; is_bad(alloc, &[RIGHT])?);
     assert!(rt; is_bad(alloc, &[FLUSH, RIGHT, RIGHT])?);
-    for line in [CID, HEAD_BEHIND, HEAD_AHEAD, NO_SLOT, STATUS, DATA] {
+    for line in [CID, HEAD_BEHIND, HEAD_AHEAD, NO_SLOT, STATUS, FAULT, DATA] {
         assert!(rt; is_bad(alloc, &[FLUSH, line])?);
+    }
+    Ok(())
+}
+
+#[test]
+fn lines_where_sqhd_is_ignored(rt: HostRuntime) -> Result<(), Fail> {
+    let alloc = rt.alloc();
+    let mut options = TraceOptions::none();
+    options.ignored.sqhd = true;
+    for line in [RIGHT, HEAD_BEHIND, HEAD_AHEAD, NO_SLOT] {
+        assert!(rt; !is_bad_read(alloc, &options, &[FLUSH, line])?);
+    }
+    for line in [PHASE, RETRY, CID, STATUS, DATA] {
+        assert!(rt; is_bad_read(alloc, &options, &[FLUSH, line])?);
+    }
+    Ok(())
+}
+
+#[test]
+fn lines_where_any_status_will_do(rt: HostRuntime) -> Result<(), Fail> {
+    let alloc = rt.alloc();
+    let mut options = TraceOptions::none();
+    options.statuses_any = true;
+    for line in [RIGHT, STATUS, FAULT, DATA] {
+        assert!(rt; !is_bad_read(alloc, &options, &[FLUSH, line])?);
+    }
+    for line in [PHASE, BITS, FAULT_RETRY, CID, HEAD_AHEAD] {
+        assert!(rt; is_bad_read(alloc, &options, &[FLUSH, line])?);
+    }
+    Ok(())
+}
+
+#[test]
+fn lines_where_do_not_retry_is_ignored(rt: HostRuntime) -> Result<(), Fail> {
+    let alloc = rt.alloc();
+    let mut options = TraceOptions::none();
+    options.ignored.dnr = true;
+    assert!(rt; !is_bad_read(alloc, &options, &[FLUSH, RETRY])?);
+    for line in [PHASE, BITS, FAULT_RETRY, HEAD_AHEAD] {
+        assert!(rt; is_bad_read(alloc, &options, &[FLUSH, line])?);
     }
     Ok(())
 }

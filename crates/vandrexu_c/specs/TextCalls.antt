@@ -12,8 +12,11 @@ use Rattle.casdisk_texts.specs.declared.certify_fault.CertifyFault.TheVariants a
 use Rattle.casdisk_texts.specs.declared.fault.RunFault.{RunFault}
 use Rattle.casdisk_texts.specs.declared.fault.RunFault.TheVariants.{BadConfig, BadLine, Input, NoMemory, Output}
 use Rattle.file_commands.specs.Observing.{ObservesText}
+use Rattle.file_commands.specs.Refuting.{RefutesText}
 use Rattle.file_commands.specs.declared.answer.TraceAnswer.{TraceAnswer}
-use Rattle.file_commands.specs.declared.answer.TraceAnswer.TheVariants.{Explained, GaveUp, NotFound}
+use Rattle.file_commands.specs.declared.answer.TraceAnswer.TheVariants.{Explained, GaveUp, NotFound, Refuted}
+use Rattle.file_commands.specs.declared.refute_fault.RefuteFault.{RefuteFault}
+use Rattle.file_commands.specs.declared.refute_fault.RefuteFault.TheVariants as refute
 use Rattle.vandrexu_c.specs.declared.texts.TextAnswer.{TextAnswer}
 
 -- a number, and the line that it is about, from 1; 0 for none
@@ -39,7 +42,8 @@ told_check (Ok true) = told 0 0
 told_check (Ok false) = told 108 0
 told_check (Err fault) = told_fault fault
 
--- why the text of a history wasn't read, beside a trace's; of a configuration that is refused its first line is told
+-- why the text of a history or a refutation wasn't read, beside a trace's; of a configuration that is refused its first
+-- line is told
 abbrev pub told_history_fault : RunFault → TextAnswer
 told_history_fault (BadLine n) = told 110 n
 told_history_fault (BadConfig n) = told 110 1
@@ -63,9 +67,18 @@ told_certify (Err fault) = told_certify_fault fault
 -- what was answered about a trace
 abbrev pub told_observe : Result TraceAnswer RunFault → TextAnswer
 told_observe (Ok Explained) = told 0 0
-told_observe (Ok NotFound) = told 109 0
+told_observe (Ok Refuted) = told 109 0
+told_observe (Ok NotFound) = told 126 0
 told_observe (Ok GaveUp) = told 112 0
 told_observe (Err fault) = told_fault fault
+
+-- what was answered about a trace and what is said to refute it
+abbrev pub told_refute : Result Bool RefuteFault → TextAnswer
+told_refute (Ok true) = told 0 0
+told_refute (Ok false) = told 127 0
+told_refute (Err (refute.Trace fault)) = told_fault fault
+told_refute (Err (refute.Refutation fault)) = told_history_fault fault
+told_refute (Err refute.Output) = told 11 0
 
 -- A text is given: the room begins with it, and its rest is as before; or it is too short, and as before.
 pub record GivesAll (text old new : List ℕ) (needed : ℕ) : Type 0 where
@@ -100,7 +113,15 @@ CertifiesInMemory trace history old new needed line result =
     × CertifiesText r (Some trace) left (Some history) rest (Some []) (Some text)
     × GivesText (told_certify r) text old new needed line result
 
--- Of this trace in memory, what is said of it in so many steps, its line, and the history that was found.
+-- Of this trace and this refutation in memory, what is said of them, and its line.
+abbrev pub RefutesInMemory : (trace refutation old new : List ℕ) → (needed line result : ℕ) → Type 0
+RefutesInMemory trace refutation old new needed line result =
+    (r : Result Bool RefuteFault) × (left rest : Option (List ℕ)) × (text : List ℕ)
+    × RefutesText r (Some trace) left (Some refutation) rest (Some []) (Some text)
+    × GivesText (told_refute r) text old new needed line result
+
+-- Of this trace in memory, what is said of it in so many steps, its line, and the history or the refutation that was
+-- found.
 abbrev pub ObservesInMemory : (trace room history : List ℕ) → (found : ℕ) → (old new : List ℕ) →
     (needed line result : ℕ) → Type 0
 ObservesInMemory trace room history found old new needed line result =

@@ -2,16 +2,16 @@
 
 ghost use Rattle.std.specs.Prelude.{◌≡◌};
 ghost use Rattle.vandrexu_c.specs.TextCalls.{CertifiesInMemory, ChecksInMemory, GivesText};
-ghost use Rattle.vandrexu_c.specs.TextCalls.{ObservesInMemory, RunsInMemory};
+ghost use Rattle.vandrexu_c.specs.TextCalls.{ObservesInMemory, RefutesInMemory, RunsInMemory};
 ghost use Rattle.vandrexu_c.specs.TextCalls.{told_certify, told_certify_fault, told_check, told_fault};
-ghost use Rattle.vandrexu_c.specs.TextCalls.{told_history_fault, told_observe, told_run};
+ghost use Rattle.vandrexu_c.specs.TextCalls.{told_history_fault, told_observe, told_refute, told_run};
 
 use crate::copying::fits;
 use crate::numbers::{BAD_LINE, NOT_LEGAL, TOO_SMALL};
 use bitflags::Flags;
 use c_handles::numbers::NO_MEMORY;
 use casdisk_texts::{CertifyFault, RunFault, certify_text, check_text, run_script};
-use file_commands::{TraceAnswer, observe_text};
+use file_commands::{RefuteFault, TraceAnswer, observe_text, refute_text};
 use history::Kinds;
 use std::alloc::Global;
 
@@ -22,6 +22,10 @@ const BAD_HISTORY: u32 = 110;
 const OTHER_CONFIG: u32 = 111;
 
 const GAVE_UP: u32 = 112;
+
+const NOT_FOUND: u32 = 126;
+
+const NOT_REFUTED: u32 = 127;
 
 /// What a call answers: its number, and the line that this is about, from 1; 0 for none.
 #[derive(Clone, Copy)]
@@ -72,7 +76,7 @@ fn told_check(done: Result<bool, RunFault>) -> TextAnswer
     }
 }
 
-// Why the text of a history wasn't read, beside a trace's.
+// Why the text of a history or of a refutation wasn't read, beside a trace's.
 fn told_history_fault(fault: RunFault) -> TextAnswer
     ensures { result ≡ told_history_fault fault }
 {
@@ -118,9 +122,23 @@ fn told_observe(done: Result<TraceAnswer, RunFault>) -> TextAnswer
 {
     match done {
         Ok(TraceAnswer::Explained) => plain(0),
-        Ok(TraceAnswer::NotFound) => plain(NOT_EXPLAINED),
+        Ok(TraceAnswer::Refuted) => plain(NOT_EXPLAINED),
+        Ok(TraceAnswer::NotFound) => plain(NOT_FOUND),
         Ok(TraceAnswer::GaveUp) => plain(GAVE_UP),
         Err(fault) => told_fault(fault),
+    }
+}
+
+// What was answered about a trace and what is said to refute it.
+fn told_refute(done: Result<bool, RefuteFault>) -> TextAnswer
+    ensures { result ≡ told_refute done }
+{
+    match done {
+        Ok(true) => plain(0),
+        Ok(false) => plain(NOT_REFUTED),
+        Err(RefuteFault::Trace(fault)) => told_fault(fault),
+        Err(RefuteFault::Refutation(fault)) => told_history_fault(fault),
+        Err(RefuteFault::Output) => plain(NO_MEMORY),
     }
 }
 
@@ -201,10 +219,33 @@ pub extern "C" fn vandrexu_certify_text(
     give(told_certify(done), text.as_slice(), out, needed, line)
 }
 
-/// Looks for a history that explains a trace, in so many steps at most, and gives it, and the line that says what was
-/// found: 0 where there is one, 109 where none was found, of which nothing is promised, 112 where the steps were used
-/// up; or 107 with the first bad line of the trace, 21 to 30 for its configuration, and 11 where memory is refused; or
-/// 103 where `history` or `out` is too short, and nothing is written there. `found` and `needed` are their lengths.
+/// Says whether a trace is refuted, and gives the line that says so: 0 where it is, so that no legal history explains
+/// it, 127 where it isn't by this; or 107 with the first bad line of the trace, and 21 to 30 for its configuration; or
+/// 110 with the first bad line of the refutation; or 11 where memory is refused, with no text or a beginning of it; or
+/// 103 where `out` is too short, and nothing is written there. `needed` is the text's length.
+#[unsafe(no_mangle)]
+pub extern "C" fn vandrexu_refute_text(
+    alloc: Global,
+    trace: &[u8],
+    refutation: &[u8],
+    out: &mut [u8],
+    needed: &mut usize,
+    line: &mut u64,
+) -> u32
+    ensures refutes { RefutesInMemory trace.now refutation.now out.old out.new needed.new line.new result }
+{
+    let mut seen = trace;
+    let mut said = refutation;
+    let mut text = Vec::new(alloc);
+    let done = refute_text(alloc, &mut seen, &mut said, &mut text);
+    give(told_refute(done), text.as_slice(), out, needed, line)
+}
+
+/// Looks for a history that explains a trace, in so many steps at most, and gives it, or what refutes the trace, and
+/// the line that says what was found: 0 where there is a history, 109 where there is none and `history` begins with a
+/// refutation, 126 where neither was found, 112 where the steps were used up; or 107 with the first bad line of the
+/// trace, 21 to 30 for its configuration, and 11 where memory is refused; or 103 where `history` or `out` is too short,
+/// and nothing is written there. `found` and `needed` are their lengths.
 #[unsafe(no_mangle)]
 pub extern "C" fn vandrexu_observe_text(
     alloc: Global,

@@ -48,6 +48,8 @@ pub const VANDREXU_NOT_EXPLAINED: u32 = 109;
 pub const VANDREXU_BAD_HISTORY: u32 = 110;
 pub const VANDREXU_OTHER_CONFIG: u32 = 111;
 pub const VANDREXU_GAVE_UP: u32 = 112;
+pub const VANDREXU_NOT_FOUND: u32 = 126;
+pub const VANDREXU_NOT_REFUTED: u32 = 127;
 
 // ---- What a call about a disk or a host answers besides
 
@@ -336,6 +338,16 @@ unsafe extern "C" {
         trace_length: usize,
         history: *const u8,
         history_length: usize,
+        out: *mut u8,
+        room: usize,
+        needed: *mut usize,
+        line: *mut u64,
+    ) -> u32;
+    pub fn vandrexu_refute_text(
+        trace: *const u8,
+        trace_length: usize,
+        refutation: *const u8,
+        refutation_length: usize,
         out: *mut u8,
         room: usize,
         needed: *mut usize,

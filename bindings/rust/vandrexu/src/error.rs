@@ -105,7 +105,7 @@ errors! {
     BadLine = VANDREXU_BAD_LINE, "no line of a history";
     NotLegal = VANDREXU_NOT_LEGAL, "the history with this line isn't legal";
     NotExplained = VANDREXU_NOT_EXPLAINED, "the trace isn't explained";
-    BadHistory = VANDREXU_BAD_HISTORY, "the history beside the trace has a line that is none";
+    BadHistory = VANDREXU_BAD_HISTORY, "what stands beside the trace has a line that is none";
     OtherConfig = VANDREXU_OTHER_CONFIG, "a trace and a history that don't belong together";
     GaveUp = VANDREXU_GAVE_UP, "the steps of the search were used up";
     Unfinished = VANDREXU_UNFINISHED, "what was fetched before isn't finished";
@@ -122,6 +122,8 @@ errors! {
     UsedNumber = VANDREXU_USED_NUMBER, "a host of the disk had the number before";
     /// (Also where that host was dropped.)
     UsedQueue = VANDREXU_USED_QUEUE, "a host of the disk had the completion queue of this submission queue before";
+    NotFound = VANDREXU_NOT_FOUND, "neither a history nor a refutation was found";
+    NotRefuted = VANDREXU_NOT_REFUTED, "the trace isn't refuted by this";
 }
 
 impl std::error::Error for Error {}

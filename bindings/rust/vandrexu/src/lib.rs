@@ -74,7 +74,7 @@ pub use error::{Error, Result};
 pub use hosts::{Disk, Host, Reply};
 pub use iterators::{Completions, HistoryLines, Steps};
 pub use slots::{Name, SlotHost, SlotReply};
-pub use texts::{Lines, TextError, certify_text, check_text, observe_text, run_text};
+pub use texts::{Lines, TextError, certify_text, check_text, observe_text, refute_text, run_text};
 
 /// The version of the archive's header.
 pub const VERSION: &str = vandrexu_sys::VANDREXU_VERSION;

@@ -60,6 +60,8 @@ pub struct TextError {
     pub line: Option<u64>,
     /// What was written before.
     pub text: Vec<u8>,
+    /// What refutes the trace ([`refute_text`]), where [`observe_text`] answers [`Error::NotExplained`].
+    pub refutation: Vec<u8>,
 }
 
 impl fmt::Display for TextError {
@@ -77,7 +79,7 @@ impl std::error::Error for TextError {}
 fn answer(status: u32, line: u64, text: Vec<u8>) -> Result<Vec<u8>, TextError> {
     match told(status) {
         Ok(()) => Ok(text),
-        Err(error) => Err(TextError { error, line: (line != 0).then_some(line), text }),
+        Err(error) => Err(TextError { error, line: (line != 0).then_some(line), text, refutation: vec![] }),
     }
 }
 
@@ -154,6 +156,29 @@ pub fn certify_text(trace: impl AsRef<[u8]>, history: impl AsRef<[u8]>) -> Resul
     })
 }
 
+/// Says whether a trace is refuted (docs/OBSERVING.md), and returns the line that says so: no legal history explains it.
+///
+/// # Errors
+/// [`Error::NotRefuted`] where it isn't by this, behind the line that says why; [`Error::BadLine`] with the first bad
+/// line of the trace, or its configuration's fault; [`Error::BadHistory`] with the first bad line of the refutation;
+/// [`Error::NoMemory`].
+pub fn refute_text(trace: impl AsRef<[u8]>, refutation: impl AsRef<[u8]>) -> Result<Vec<u8>, TextError> {
+    let (trace, refutation) = (trace.as_ref(), refutation.as_ref());
+    // SAFETY: as in run_text.
+    ask(|out, room, needed, line| unsafe {
+        sys::vandrexu_refute_text(
+            trace.as_ptr(),
+            trace.len(),
+            refutation.as_ptr(),
+            refutation.len(),
+            out,
+            room,
+            needed,
+            line,
+        )
+    })
+}
+
 /// Looks for a history that explains a trace, in so many steps at most, and returns it. (casdisk takes 10,000,000.)
 ///
 /// ```
@@ -167,8 +192,8 @@ pub fn certify_text(trace: impl AsRef<[u8]>, history: impl AsRef<[u8]>) -> Resul
 /// ```
 ///
 /// # Errors
-/// [`Error::NotExplained`] where none was found, of which nothing is promised; [`Error::GaveUp`] where the steps were
-/// used up; [`Error::BadLine`] with the first bad line of the trace; its configuration's fault; [`Error::NoMemory`].
+/// [`Error::NotExplained`] where there is none, with what refutes the trace; [`Error::NotFound`] where neither was
+/// found; [`Error::GaveUp`] where the steps were used up; [`Error::BadLine`] with the first bad line of the trace; its configuration's fault; [`Error::NoMemory`].
 pub fn observe_text(trace: impl AsRef<[u8]>, steps: u64) -> Result<Vec<u8>, TextError> {
     let trace = trace.as_ref();
     let (mut history, mut text) = (vec![0; 4096], vec![0; 256]);
@@ -192,8 +217,10 @@ pub fn observe_text(trace: impl AsRef<[u8]>, steps: u64) -> Result<Vec<u8>, Text
         history.resize(found, 0);
         text.resize(needed, 0);
         if status != sys::VANDREXU_TOO_SMALL {
-            answer(status, line, text)?;
-            return Ok(history);
+            return match answer(status, line, text) {
+                Ok(_) => Ok(history),
+                Err(error) => Err(TextError { refutation: history, ..error }),
+            };
         }
     }
 }

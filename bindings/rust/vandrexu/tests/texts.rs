@@ -1,5 +1,5 @@
 //! Each call about a text, with each of its answers.
-use vandrexu::{Error, Lines, TextError, certify_text, check_text, observe_text, run_text};
+use vandrexu::{Error, Lines, TextError, certify_text, check_text, observe_text, refute_text, run_text};
 
 const HEAD: &str = "config 8 1 1 0 0 1 4 4 8\n";
 const REFUSED: &str = "config 8 1 1 0 0 17 4 4 8\n";
@@ -77,14 +77,23 @@ fn traces() {
     assert_eq!(certify_text(trace(), &found), Ok(b"explained\n".to_vec()));
     // the Read found another block than the one that was written before it
     let other = format!("{}B2\n", trace().strip_suffix("A1\n").expect("a Read comes last"));
+    let refutation = observe_text(&other, 1_000_000).expect_err("the trace is refuted").refutation;
     let (error, line, text) = failed(observe_text(&other, 1_000_000));
     assert_eq!((error, line), (Error::NotExplained, None));
-    assert!(text.starts_with("not found: "), "{text}");
+    assert!(text.starts_with("refuted: "), "{text}");
+    assert!(refutation.starts_with(b"refutation\nlines "), "{refutation:?}");
+    assert!(refute_text(&other, &refutation).expect("it refutes the trace").starts_with(b"refuted: the first "));
+    let (error, line, text) = failed(refute_text(trace(), &refutation));
+    assert_eq!((error, line), (Error::NotRefuted, None));
+    assert!(text.starts_with("not refuted: "), "{text}");
+    assert_eq!(failed(refute_text("none\n", &refutation)).0, Error::BadLine);
+    assert_eq!(failed(refute_text(trace(), "refutation\n")), (Error::BadHistory, Some(2), String::new()));
+    assert_eq!(failed(refute_text(REFUSED, &refutation)).0, Error::BadPairs);
     assert_eq!(failed(observe_text(trace(), 0)), (Error::GaveUp, None, "gave up\n".to_owned()));
     assert_eq!(failed(observe_text("none\n", 1000)).0, Error::BadLine);
     assert_eq!(failed(observe_text(REFUSED, 1000)).0, Error::BadPairs);
     assert_eq!(
-        TextError { error: Error::BadLine, line: Some(4), text: vec![] }.to_string(),
+        TextError { error: Error::BadLine, line: Some(4), text: vec![], refutation: vec![] }.to_string(),
         "line 4: no line of a history"
     );
 }

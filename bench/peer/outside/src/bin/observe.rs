@@ -29,6 +29,9 @@ const ONCE_WRONG: [(u64, bool); 8] = [
 
 static WITNESSES: AtomicU64 = AtomicU64::new(0);
 
+/// Traces that are refuted.
+static REFUTED: AtomicU64 = AtomicU64::new(0);
+
 // What is to be said; and the file of a witness, which is looked at now and then. Some traces have options.
 fn compare(program: &Program, seed: u64, has_head: bool) {
     let random = Random::new(seed ^ 0x0B5E_47E5);
@@ -52,10 +55,13 @@ fn compare(program: &Program, seed: u64, has_head: bool) {
         Said::Not(lines) => {
             // (the first lines are the head)
             let head = 1 + trace.options.text().lines().count();
-            let front = format!("not found: up to line {}: ", lines + head);
-            (status == 1 && output.starts_with(front.as_bytes()) && words.is_empty(), 1)
+            let front = format!("up to line {}: ", lines + head);
+            let word = if status == 1 { "refuted: " } else { "not found: " };
+            let is_told = output.starts_with(format!("{word}{front}").as_bytes());
+            REFUTED.fetch_add(u64::from(status == 1), Relaxed);
+            ((status == 1 || status == 6) && is_told && words.is_empty(), 1)
         }
-        Said::Undecided => (status <= 1 && words.is_empty(), 2),
+        Said::Undecided => ((status <= 1 || status == 6) && words.is_empty(), 2),
     };
     assert!(is_right, "seed {seed}: {said:?}, and the program says {}: {file}", String::from_utf8_lossy(&output));
     if asked && is_explained {
@@ -81,7 +87,8 @@ fn main() {
     let [explained, not, undecided] = sums;
     assert!(undecided * 50 <= many, "the search that makes every step left too many undecided");
     println!(
-        "{many} traces of up to {MOST_ENTRIES} entries, {} witnesses: both find {explained} explained and {not} not, and of {undecided} there was too much to try",
-        WITNESSES.load(Relaxed)
+        "{many} traces of up to {MOST_ENTRIES} entries, {} witnesses: both find {explained} explained and {not} not, {} of them refuted, and of {undecided} there was too much to try",
+        WITNESSES.load(Relaxed),
+        REFUTED.load(Relaxed)
     );
 }

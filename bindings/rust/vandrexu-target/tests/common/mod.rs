@@ -86,7 +86,7 @@ pub fn is_explained(trace: &Path) -> bool {
     let text = fs::read(trace).expect("a trace");
     match vandrexu::observe_text(&text, 50_000_000) {
         Ok(_) => true,
-        Err(it) if it.error == Error::NotExplained => false,
+        Err(it) if matches!(it.error, Error::NotExplained | Error::NotFound) => false,
         Err(it) => panic!("{it}: {}", String::from_utf8_lossy(&it.text)),
     }
 }

@@ -1,0 +1,73 @@
+//! The command `refute`.
+
+use crate::failure::{Failure, end_fault, failure_of};
+use crate::grammar::Grammar;
+use crate::input::opened;
+use file_commands::{RefuteFault, refute_text};
+use std::io;
+use std::process::ExitCode;
+use std::rt::Files;
+
+// Why a trace wasn't compared with a refutation; and the second line about it, where one was asked for.
+#[derive(Drop)]
+struct RefuteFailure {
+    fault: RefuteFault,
+    why: Option<String>,
+}
+
+// The failure of the trace.
+fn of_trace(failure: Failure) -> RefuteFailure {
+    let Failure { fault, why } = failure;
+    RefuteFailure {
+        fault: RefuteFault::Trace(fault),
+        why,
+    }
+}
+
+// The failure of the refutation.
+fn of_refutation(failure: Failure) -> RefuteFailure {
+    let Failure { fault, why } = failure;
+    RefuteFailure {
+        fault: RefuteFault::Refutation(fault),
+        why,
+    }
+}
+
+// Compares a refutation with a trace, and says whether the trace is refuted.
+fn refuted<R: Files + Input + Print + AllocGlobal>(
+    rt: &R,
+    why: bool,
+    trace_file: &str,
+    refutation_file: &str,
+) -> Result<bool, RefuteFailure> {
+    let mut trace = opened(rt, trace_file, why).map_err(of_trace)?;
+    let mut refutation = opened(rt, refutation_file, why).map_err(of_refutation)?;
+    let done = refute_text(rt.alloc(), &mut trace, &mut refutation, &mut io::writer(rt));
+    match done {
+        Ok(answer) => Ok(answer),
+        Err(RefuteFault::Trace(fault)) => Err(of_trace(failure_of(
+            rt.alloc(),
+            trace_file,
+            &mut trace,
+            Grammar::Trace,
+            fault,
+        ))),
+        Err(fault) => Err(RefuteFailure { fault, why: None }),
+    }
+}
+
+/// Compares a refutation with a trace, and gives the status 0 where it refutes it, 1 where not, else that of the fault.
+pub(crate) fn refute_files<R: Files + Input + Print + Eprint + AllocGlobal>(
+    rt: &R,
+    why: bool,
+    trace: &str,
+    refutation: &str,
+) -> ExitCode {
+    match refuted(rt, why, trace, refutation) {
+        Ok(true) => ExitCode::from(0),
+        Ok(false) => ExitCode::from(1),
+        Err(RefuteFailure { fault, why }) => {
+            ExitCode::from(end_fault(rt, fault, fault.status(), why))
+        }
+    }
+}
