@@ -14,8 +14,8 @@ Work(ticket=1, kind=<Kind.PAIR: 4>, slba=3, blocks=1, op=None, statuses=0)
 [True, True]
 True
 
-It stands on the shared library that is made of libvandrexu_c.a, each function of which is proved; this file is only
-tested. VANDREXU_LIBRARY names that library; else it is libvandrexu.so beside this file (docs/LIBRARY.md).
+It stands on the shared library, each function of which is proved; this file is only tested. VANDREXU_LIBRARY names that
+library. Else it is beside this file, where this repository or an installation has it, or where the system looks.
 
 A handle may go from thread to thread; calls of one take turns. It isn't called in a child that a process with threads
 forked.
@@ -405,14 +405,27 @@ _ARGUMENTS = {
 }
 
 
+_SHARED = "libvandrexu.so.0"
+# From this file: beside it; in a clone, where `./casdisk --library out/library` makes it; and where install.sh puts it.
+_PLACES = (".", "../../out/library/lib", "../../../../../lib")
+
+
+def _path() -> str:
+    """Where the shared library is: as VANDREXU_LIBRARY names it, in one of these places, or where the system looks."""
+    if named := os.environ.get("VANDREXU_LIBRARY"):
+        return named
+    here = os.path.dirname(os.path.abspath(__file__))
+    found = (os.path.join(here, place, name) for place in _PLACES for name in (_SHARED, "libvandrexu.so"))
+    return next(filter(os.path.exists, found), _SHARED)
+
+
 def _load() -> ctypes.CDLL:
     """The shared library, each of its functions with its arguments."""
-    beside = os.path.join(os.path.dirname(os.path.abspath(__file__)), "libvandrexu.so")
-    path = os.environ.get("VANDREXU_LIBRARY") or beside
+    path = _path()
     try:
         library = ctypes.CDLL(path)
     except OSError as error:
-        raise ImportError(f"VANDREXU_LIBRARY names the library, else it lies beside vandrexu.py: {error}") from error
+        raise ImportError(f"no library of Vandrexu: `./casdisk --library out/library` makes it, and VANDREXU_LIBRARY names another ({error})") from error
     for name, arguments in _ARGUMENTS.items():
         function = getattr(library, name)
         function.argtypes = arguments
