@@ -4,7 +4,7 @@ use crate::failure::{Failure, end_fault, failure_of};
 use crate::grammar::Grammar;
 use crate::input::opened;
 use crate::kept::Kept;
-use casdisk_texts::{CertifyFault, RunFault, certify_text};
+use casdisk_texts::{CertifyFault, Logged, RunFault, certify_text};
 use std::alloc::Global;
 use std::io;
 use std::io::{Read, Write};
@@ -39,13 +39,14 @@ pub(crate) fn of_history(failure: Failure) -> CertifyFailure {
 /// Compares a history with a trace, which were opened, writes what is said of that, and says whether it explains it.
 pub(crate) fn compared<T: Read + Drop, H: Read + Drop, W: Write>(
     alloc: Global,
+    logged: Logged,
     trace_file: &str,
     trace: &mut Kept<T>,
     history_file: &str,
     history: &mut Kept<H>,
     writer: &mut W,
 ) -> Result<bool, CertifyFailure> {
-    match certify_text(alloc, trace, history, writer) {
+    match certify_text(alloc, logged, trace, history, writer) {
         Ok(answer) => Ok(answer),
         Err(CertifyFault::Trace(fault)) => Err(of_trace(failure_of(
             alloc,
@@ -68,6 +69,7 @@ pub(crate) fn compared<T: Read + Drop, H: Read + Drop, W: Write>(
 // Compares a history with a trace, and says whether it explains it.
 fn certified<R: Files + Input + Print + AllocGlobal>(
     rt: &R,
+    logged: Logged,
     why: bool,
     trace_file: &str,
     history_file: &str,
@@ -76,6 +78,7 @@ fn certified<R: Files + Input + Print + AllocGlobal>(
     let mut history = opened(rt, history_file, why).map_err(of_history)?;
     compared(
         rt.alloc(),
+        logged,
         trace_file,
         &mut trace,
         history_file,
@@ -90,14 +93,24 @@ pub(crate) fn end_certify<R: Eprint>(rt: &R, failure: CertifyFailure) -> u8 {
     end_fault(rt, fault, fault.status(), why)
 }
 
+/// How the lines of a trace were logged, as the command line says it.
+pub(crate) fn logged_so(delayed: bool) -> Logged {
+    if delayed {
+        Logged::WithDelays
+    } else {
+        Logged::AsSeen
+    }
+}
+
 // Compares a history with a trace, and gives the status 0 where it explains it, 1 where not, else that of the fault.
 pub(crate) fn certify_files<R: Files + Input + Print + Eprint + AllocGlobal>(
     rt: &R,
+    logged: Logged,
     why: bool,
     trace: &str,
     history: &str,
 ) -> ExitCode {
-    match certified(rt, why, trace, history) {
+    match certified(rt, logged, why, trace, history) {
         Ok(true) => ExitCode::from(0),
         Ok(false) => ExitCode::from(1),
         Err(failure) => ExitCode::from(end_certify(rt, failure)),

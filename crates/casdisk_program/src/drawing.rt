@@ -6,7 +6,7 @@ use crate::grammar::Grammar;
 use crate::input::opened;
 use crate::kept::Kept;
 use crate::output_buffer::BUFFER;
-use casdisk_texts::{CertifyFault, RunFault};
+use casdisk_texts::{CertifyFault, Logged, RunFault};
 use command_line::SlotArea;
 use nvme_model::array::Range;
 use picture_shapes::{Aspect, LanesShown, Subject};
@@ -104,7 +104,15 @@ fn explains<R: Files + Input + Print + AllocGlobal>(
     let mut trace = opened(rt, trace_file, why).map_err(of_trace)?;
     let mut text = Kept::new(alloc, history, why);
     let mut said: Vec<u8> = Vec::new(alloc);
-    let explained = compared(alloc, trace_file, &mut trace, file, &mut text, &mut said)?;
+    let explained = compared(
+        alloc,
+        Logged::AsSeen,
+        trace_file,
+        &mut trace,
+        file,
+        &mut text,
+        &mut said,
+    )?;
     if !explained && io::writer(rt).write_all(said.as_slice()).is_err() {
         return Err(CertifyFailure {
             fault: CertifyFault::Output,

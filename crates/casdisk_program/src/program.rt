@@ -1,6 +1,6 @@
 //! The whole program, over any runtime.
 
-use crate::certify::certify_files;
+use crate::certify::{certify_files, logged_so};
 use crate::counter::Counter;
 use crate::drawing::{draw_file, lanes_of};
 use crate::failure::{Failure, end_failure, end_fault, failure_of};
@@ -105,10 +105,11 @@ fn finish<R: Threads + Wait + Sync + Files + Clock + Input + Print + Eprint + Al
         } => check_file(rt, follow, told && !quiet, why, file),
         Asked::Explain { why, file, .. } => explain_file(rt, why, file),
         Asked::Certify {
+            delayed,
             why,
             trace,
             history,
-        } => return certify_files(rt, why, trace, history),
+        } => return certify_files(rt, logged_so(delayed), why, trace, history),
         Asked::Refute {
             why,
             trace,

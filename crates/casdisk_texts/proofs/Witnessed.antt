@@ -11,10 +11,10 @@ use Rattle.nvme_model.specs.declared.entry.Entry.{Entry}
 use Rattle.trace.specs.Aside.{history_numbers}
 use Rattle.trace.specs.declared.options.TraceOptions.{TraceOptions}
 use Rattle.trace.specs.declared.seen.Seen.{Seen}
-use Rattle.witness_check.specs.Compared.{IsVerdict}
 use Rattle.witness_check.specs.declared.comparison.TraceVerdict.{TraceVerdict}
-use Rattle.casdisk_texts.specs.Certified.{CertifiesText, HasTextVerdict, HaveOtherConfigs, IsUncompared, IsVerdictOf}
-use Rattle.casdisk_texts.specs.Certified.{TellsVerdict}
+use Rattle.casdisk_texts.specs.Certified.{CertifiesText, HasTextVerdict, HaveOtherConfigs, IsUncompared, IsVerdictAs}
+use Rattle.casdisk_texts.specs.Certified.{IsVerdictOf, TellsVerdict}
+use Rattle.casdisk_texts.specs.declared.logged.Logged.{Logged}
 use Rattle.casdisk_texts.specs.Files.{HasHistory, IsUnread, file_of}
 use Rattle.casdisk_texts.specs.Traces.{HasTrace, options_of, trace_in}
 use Rattle.casdisk_texts.specs.declared.certify_fault.CertifyFault.{CertifyFault}
@@ -30,7 +30,7 @@ entry_more entries e past h = ap (λ (xs : List Entry). xs ++ e ∷ []) h ∙ sy
 
 -- ---- both were read
 
-module _ (o : TraceOptions) (b c d : ConfigNumbers) (things : List Seen) (entries : List Entry) where
+module _ (logged : Logged) (o : TraceOptions) (b c d : ConfigNumbers) (things : List Seen) (entries : List Entry) where
   -- the trace is this one
   abbrev IsTrace : List ℕ → Type 0
   IsTrace = HasTrace (λ p k xs. (p ≡ o) × (k ≡ b) × (xs ≡ things) × (c ≡ history_numbers p k))
@@ -44,15 +44,16 @@ module _ (o : TraceOptions) (b c d : ConfigNumbers) (things : List Seen) (entrie
   of_trace t trace = sym trace.1.2.3
 
   verdict_of : (v : TraceVerdict) (t h : List ℕ) → IsTrace t → IsHistory h → c ≡ d
-      → IsVerdict o c (reverse entries) things v
-      → IsVerdictOf v t h
+      → IsVerdictAs logged o c (reverse entries) things v
+      → IsVerdictOf logged v t h
   verdict_of v t h trace history same says =
       let whole : reverse entries ≡ (file_of h).past = ap reverse history.1.2.1 ∙ reverse-reverse (file_of h).past in
-      let one = subst (λ (k : ConfigNumbers). IsVerdict o k (reverse entries) things v) (same ∙ sym history.1.2.0)
-      says in
-      let two = subst (λ (xs : List Seen). IsVerdict o history.1.0 (reverse entries) xs v) (sym trace.1.2.2) one in
-      let three = subst (λ (past : Past). IsVerdict o history.1.0 past (trace_in t) v) whole two in
-      let four = subst (λ (p : TraceOptions). IsVerdict p history.1.0 (file_of h).past (trace_in t) v)
+      let one = subst (λ (k : ConfigNumbers). IsVerdictAs logged o k (reverse entries) things v)
+      (same ∙ sym history.1.2.0) says in
+      let two = subst (λ (xs : List Seen). IsVerdictAs logged o history.1.0 (reverse entries) xs v)
+      (sym trace.1.2.2) one in
+      let three = subst (λ (past : Past). IsVerdictAs logged o history.1.0 past (trace_in t) v) whole two in
+      let four = subst (λ (p : TraceOptions). IsVerdictAs logged p history.1.0 (file_of h).past (trace_in t) v)
       (sym trace.1.2.0) three in (
         trace.0,
         (
@@ -63,7 +64,8 @@ module _ (o : TraceOptions) (b c d : ConfigNumbers) (things : List Seen) (entrie
       )
 
   has_verdict : (v : TraceVerdict) (Holds : TraceVerdict → Type 0) (t h : Option (List ℕ)) → IfSome t IsTrace
-      → IfSome h IsHistory → c ≡ d → IsVerdict o c (reverse entries) things v → Holds v → HasTextVerdict Holds t h
+      → IfSome h IsHistory → c ≡ d → IsVerdictAs logged o c (reverse entries) things v → Holds v
+      → HasTextVerdict logged Holds t h
   has_verdict v Holds None h trace history same says holds = tt
   has_verdict v Holds (Some t) None trace history same says holds = tt
   has_verdict v Holds (Some t) (Some h) trace history same says holds =
@@ -71,7 +73,8 @@ module _ (o : TraceOptions) (b c d : ConfigNumbers) (things : List Seen) (entrie
 
   pub certified : (v : TraceVerdict) (res : Result Bool CertifyFault) (t u h l x y : Option (List ℕ))
       → IsAtEnd u × IfSome t IsTrace → IsAtEnd l × IfSome h IsHistory
-      → (c ≡ d) × IsVerdict o c (reverse entries) things v → TellsVerdict v res x y → CertifiesText res t u h l x y
+      → (c ≡ d) × IsVerdictAs logged o c (reverse entries) things v → TellsVerdict v res x y
+      → CertifiesText logged res t u h l x y
   certified v (Ok answer) t u h l x y trace history says told =
       (trace.0, history.0, has_verdict v _ t h trace.1 history.1 says.0 says.1 told)
   certified v (Err (Trace f)) t u h l x y trace history says told = absurd told
@@ -94,7 +97,7 @@ module _ (o : TraceOptions) (b c d : ConfigNumbers) (things : List Seen) (entrie
 
   -- nothing is said
   pub uncertified : (f : CertifyFault) (t u h l x : Option (List ℕ)) → IfSome t IsTrace → IfSome h IsHistory
-      → IsUncompared c d f → CertifiesText (Err f) t u h l x x
+      → IsUncompared c d f → CertifiesText logged (Err f) t u h l x x
   uncertified (Trace f) t u h l x trace history failed = absurd failed
   uncertified (History f) t u h l x trace history failed =
       (subst (λ (g : RunFault). IsUnread g h l) (sym failed) tt, Keeps-refl x)

@@ -1,18 +1,22 @@
 -- What is said of the texts of a trace and of a history that may explain it.
-use Rattle.std.specs.Prelude.{◌≡◌, ◌≢◌, ◌++◌, ℕ, Bool, false, true, List, [], ◌∷◌, Option, Some, IfSome, Result}
-use Rattle.std.specs.Prelude.{Ok, Err, codes, decimal}
+use Rattle.std.specs.Prelude.{◌≡◌, ◌≢◌, ◌++◌, ℕ, Bool, false, true, List, [], ◌∷◌, Option, Some, IfSome, Result, Ok}
+use Rattle.std.specs.Prelude.{Err, codes, decimal}
 use Rattle.std.specs.Io.KnownBytes.{Appends, IsAtEnd, Keeps}
 use Rattle.std.specs.List.{join_with_byte}
 use Rattle.line_text.specs.Known.{AppendsFront}
 use Rattle.line_text.specs.Lines.{whole_lines}
+use Rattle.nvme_model.specs.History.{Past}
 use Rattle.nvme_model.specs.declared.config.ConfigNumbers.{ConfigNumbers}
 use Rattle.trace.specs.Aside.{history_numbers}
+use Rattle.trace.specs.declared.options.TraceOptions.{TraceOptions}
+use Rattle.trace.specs.declared.seen.Seen.{Seen}
 use Rattle.witness_check.specs.Compared.{IsVerdict}
+use Rattle.witness_check.specs.Delays.{IsDelayedVerdict}
 use Rattle.witness_check.specs.declared.comparison.TraceVerdict.{TraceVerdict}
 use Rattle.witness_check.specs.declared.comparison.TraceVerdict.TheVariants.{Bad, Explained, Unlike}
 use Rattle.witness_check.specs.declared.difference.Difference.{Difference}
 use Rattle.witness_check.specs.declared.difference.Difference.TheVariants.{Batch, Completion, Contents, Data}
-use Rattle.witness_check.specs.declared.difference.Difference.TheVariants.{HistoryEnds, Kind, Queue, TraceEnds}
+use Rattle.witness_check.specs.declared.difference.Difference.TheVariants.{HistoryEnds, Kind, Order, Queue, TraceEnds}
 use Rattle.casdisk_texts.specs.Fault.{exit_status}
 use Rattle.casdisk_texts.specs.Files.{HasHistory, IsUnread, bad_text}
 use Rattle.casdisk_texts.specs.Script.{first_config}
@@ -20,6 +24,8 @@ use Rattle.casdisk_texts.specs.Traces.{HasTrace, IsTraceUnread, options_of}
 use Rattle.casdisk_texts.specs.declared.certify_fault.CertifyFault.{CertifyFault}
 use Rattle.casdisk_texts.specs.declared.certify_fault.CertifyFault.TheVariants.{History, OtherConfig, Output, Trace}
 use Rattle.casdisk_texts.specs.declared.fault.RunFault.TheVariants.{NoMemory}
+use Rattle.casdisk_texts.specs.declared.logged.Logged.{Logged}
+use Rattle.casdisk_texts.specs.declared.logged.Logged.TheVariants.{AsSeen, WithDelays}
 
 -- the status with which the program ends then
 abbrev pub certify_status : CertifyFault → ℕ
@@ -38,6 +44,7 @@ difference_text Batch = codes ": the entries" ++ 10 ∷ []
 difference_text Completion = codes ": the completion" ++ 10 ∷ []
 difference_text Data = codes ": the data" ++ 10 ∷ []
 difference_text Contents = codes ": what was there isn't written before it" ++ 10 ∷ []
+difference_text Order = codes ": a publish that came before it is logged behind it" ++ 10 ∷ []
 
 -- the line of a verdict
 abbrev pub verdict_text : TraceVerdict → List ℕ
@@ -51,16 +58,21 @@ explains Explained = true
 explains (Bad k) = false
 explains (Unlike k d) = false
 
+-- The verdict on a history, the newest first, and a trace, the oldest first, by how the trace was logged.
+abbrev pub IsVerdictAs : Logged → TraceOptions → ConfigNumbers → Past → List Seen → TraceVerdict → Type 0
+IsVerdictAs AsSeen o c past things v = IsVerdict o c past things v
+IsVerdictAs WithDelays o c past things v = IsDelayedVerdict o c past things v
+
 -- The verdict on the texts of a trace and of a history, whose configuration is the one that a history of the trace has.
-abbrev pub IsVerdictOf : TraceVerdict → List ℕ → List ℕ → Type 0
-IsVerdictOf v trace history =
+abbrev pub IsVerdictOf : Logged → TraceVerdict → List ℕ → List ℕ → Type 0
+IsVerdictOf logged v trace history =
     HasTrace (λ o c things.
-    HasHistory (λ d past. (history_numbers o c ≡ d) × IsVerdict o d past things v) history) trace
+    HasHistory (λ d past. (history_numbers o c ≡ d) × IsVerdictAs logged o d past things v) history) trace
 
 -- two texts, where they are known, have a verdict, of which this holds
-abbrev pub HasTextVerdict : (TraceVerdict → Type 0) → Option (List ℕ) → Option (List ℕ) → Type 0
-HasTextVerdict Holds trace history =
-    IfSome trace (λ t. IfSome history (λ h. (v : TraceVerdict) × IsVerdictOf v t h × Holds v))
+abbrev pub HasTextVerdict : Logged → (TraceVerdict → Type 0) → Option (List ℕ) → Option (List ℕ) → Type 0
+HasTextVerdict logged Holds trace history =
+    IfSome trace (λ t. IfSome history (λ h. (v : TraceVerdict) × IsVerdictOf logged v t h × Holds v))
 
 -- the configuration of a history isn't the one that a history of the trace has
 abbrev pub HaveOtherConfigs : List ℕ → List ℕ → Type 0
@@ -78,14 +90,14 @@ IsUnsaid Output trace trace_left history history_left = ⊥
 
 -- By what was answered on two texts: the line of their verdict, and both readers at their ends; nothing; or a beginning
 -- of that line.
-abbrev pub CertifiesText : Result Bool CertifyFault →
+abbrev pub CertifiesText : Logged → Result Bool CertifyFault →
     (trace trace_left history history_left old new : Option (List ℕ)) → Type 0
-CertifiesText (Ok answer) trace trace_left history history_left old new =
+CertifiesText logged (Ok answer) trace trace_left history history_left old new =
     IsAtEnd trace_left × IsAtEnd history_left
-    × HasTextVerdict (λ v. (answer ≡ explains v) × Appends old new (verdict_text v)) trace history
-CertifiesText (Err Output) trace trace_left history history_left old new =
-    HasTextVerdict (λ v. AppendsFront old new (verdict_text v)) trace history
-CertifiesText (Err f) trace trace_left history history_left old new =
+    × HasTextVerdict logged (λ v. (answer ≡ explains v) × Appends old new (verdict_text v)) trace history
+CertifiesText logged (Err Output) trace trace_left history history_left old new =
+    HasTextVerdict logged (λ v. AppendsFront old new (verdict_text v)) trace history
+CertifiesText logged (Err f) trace trace_left history history_left old new =
     IsUnsaid f trace trace_left history history_left × Keeps old new
 
 -- ---- on the way there

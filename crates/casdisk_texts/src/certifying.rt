@@ -3,21 +3,22 @@
 ghost use Rattle.std.specs.Prelude.{◌≡◌, ◌↔◌, IfErr, IfOk, OnErr, OnOk, reverse, true};
 ghost use Rattle.std.specs.Io.KnownBytes.{Appends};
 ghost use Rattle.line_text.specs.Known.{AppendsFront};
-ghost use Rattle.witness_check.specs.Compared.{IsVerdict};
 ghost use Rattle.witness_check.specs.declared.comparison.TraceVerdict.TheVariants.{Unlike};
-ghost use Rattle.casdisk_texts.specs.Certified.{CertifiesText, IsUncompared, TellsVerdict, verdict_text};
+ghost use Rattle.casdisk_texts.specs.Certified.{CertifiesText, IsUncompared, IsVerdictAs, TellsVerdict, verdict_text};
 ghost use Rattle.casdisk_texts.specs.Certified.{difference_text as the_difference_text};
 
 use crate::certify_fault::CertifyFault;
 use crate::checking::send_bad;
 use crate::fault::RunFault;
 use crate::history_reading::{ReadHistory, read_history};
+use crate::logged::Logged;
 use crate::trace_reading::{Trace, read_trace};
-use history::Config;
+use history::{Config, Entry};
 use line_text::{Word, send, send_words};
-use std::alloc::Global;
+use std::alloc::{AllocError as NoMemory, Global};
 use std::io::{Read, Result as IoResult, Write};
-use witness_check::{Difference, TraceVerdict, judge};
+use trace::{Seen, TraceOptions};
+use witness_check::{Difference, TraceVerdict, judge, judge_delayed};
 
 fn same_config(one: &Config, other: &Config) -> bool
     ensures value { (result ≡ true) ↔ (one.now ≡ other.now) }
@@ -25,17 +26,40 @@ fn same_config(one: &Config, other: &Config) -> bool
     one.numbers() == other.numbers()
 }
 
-// Compares a history with a trace.
-fn compare(alloc: Global, trace: &Trace, told: &ReadHistory) -> Result<TraceVerdict, CertifyFault>
-    ensures whole { IfOk result (λ v. (trace.now.history ≡ told.now.config)
-        × IsVerdict trace.now.options trace.now.history (reverse told.now.entries.items) trace.now.things.items v) }
+// What is said of entries beside a trace that was logged so.
+fn judge_logged(
+    alloc: Global,
+    logged: Logged,
+    options: &TraceOptions,
+    config: &Config,
+    trace: &[Seen],
+    entries: &[Entry],
+) -> Result<TraceVerdict, NoMemory>
+    ensures value { IfOk result (IsVerdictAs logged options.now config.now (reverse entries.now) trace.now) }
+{
+    match logged {
+        Logged::AsSeen => judge(alloc, options, config, trace, entries),
+        Logged::WithDelays => judge_delayed(alloc, options, config, trace, entries),
+    }
+}
+
+// Compares a history with a trace that was logged so.
+fn compare(
+    alloc: Global,
+    logged: Logged,
+    trace: &Trace,
+    told: &ReadHistory,
+) -> Result<TraceVerdict, CertifyFault>
+    ensures whole { IfOk result (λ v. (trace.now.history ≡ told.now.config) × IsVerdictAs logged trace.now.options
+        trace.now.history (reverse told.now.entries.items) trace.now.things.items v) }
     ensures failed { IfErr result (IsUncompared trace.now.history told.now.config) }
 {
     if !same_config(&trace.history, &told.config) {
         return Err(CertifyFault::OtherConfig);
     }
-    match judge(
+    match judge_logged(
         alloc,
+        logged,
         &trace.options,
         &trace.history,
         trace.things.as_slice(),
@@ -59,6 +83,7 @@ fn difference_text(difference: Difference) -> &'static [u8]
         Difference::Completion => b": the completion\n",
         Difference::Data => b": the data\n",
         Difference::Contents => b": what was there isn't written before it\n",
+        Difference::Order => b": a publish that came before it is logged behind it\n",
     }
 }
 
@@ -104,7 +129,9 @@ fn tell_verdict<W: Write>(verdict: TraceVerdict, writer: &mut W) -> Result<bool,
 /// has: the same, or one with a queue pair more where the trace says that contents are unknown. It writes one line:
 /// `explained` where the history is legal and was seen as the trace; `bad at K` where it isn't legal, with the first
 /// place K, from 1, at which it isn't; or `seen K: ` and what differs, with the number K, from 1, of the first thing
-/// seen that differs. Answers whether the trace is explained.
+/// seen that differs. Answers whether the trace is explained. Where it was logged with delays, a `publish` of it may
+/// have come later, and a `reap` earlier; K of `seen K` then is the number of a line of the trace, or one more than it
+/// has.
 ///
 /// # Errors
 ///
@@ -112,11 +139,12 @@ fn tell_verdict<W: Write>(verdict: TraceVerdict, writer: &mut W) -> Result<bool,
 /// their configurations aren't so, all after nothing was written; `Output` after a beginning of the line.
 pub fn certify_text<T: Read, R: Read, W: Write>(
     alloc: Global,
+    logged: Logged,
     trace: &mut T,
     history: &mut R,
     writer: &mut W,
 ) -> Result<bool, CertifyFault>
-    ensures certifies { CertifiesText result (T.remaining trace.old) (T.remaining trace.new)
+    ensures certifies { CertifiesText logged result (T.remaining trace.old) (T.remaining trace.new)
         (R.remaining history.old) (R.remaining history.new) (W.contents writer.old) (W.contents writer.new) }
 {
     let seen = match read_trace(alloc, trace) {
@@ -130,6 +158,6 @@ pub fn certify_text<T: Read, R: Read, W: Write>(
         Ok(told) => told,
         Err(fault) => return Err(CertifyFault::History(fault)),
     };
-    let verdict = compare(alloc, &seen, &told)?;
+    let verdict = compare(alloc, logged, &seen, &told)?;
     tell_verdict(verdict, writer)
 }

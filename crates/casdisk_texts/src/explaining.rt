@@ -35,8 +35,8 @@ impl fmt::Display for Explained {
     }
 }
 
-// What the first entry that breaks a rule, if there is one, says of the history.
-fn explained_by(bad: FirstBad) -> Explained
+/// What the first entry that breaks a rule, if there is one, says of the history.
+pub(crate) fn explained_by(bad: FirstBad) -> Explained
     ensures value { result ≡ explained_of bad.place bad.broken }
 {
     match (bad.place, bad.broken) {

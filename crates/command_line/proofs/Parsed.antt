@@ -85,7 +85,7 @@ pub by_command : (words : List Text) (name : Text) (rows : List Row) → subcomm
 by_command words name rows e (Asked.Run shown flush why file) h = (name, rows, e, h)
 by_command words name rows e (Asked.Check follow area quiet why file) h = (name, rows, e, h)
 by_command words name rows e (Asked.Explain area why file) h = (name, rows, e, h)
-by_command words name rows e (Asked.Certify why trace history) h = (name, rows, e, h)
+by_command words name rows e (Asked.Certify delayed why trace history) h = (name, rows, e, h)
 by_command words name rows e (Asked.Refute why trace refutation) h = (name, rows, e, h)
 by_command words name rows e (Asked.Observe witness refutation steps why trace) h = (name, rows, e, h)
 by_command words name rows e (Asked.Tell color file) h = (name, rows, e, h)

@@ -83,7 +83,7 @@ module _ (words : List Text) (e : Error) (none : are_words_taken words ≡ true 
   by_showing (Asked.Run shown flush why file) h = absurd h
   by_showing (Asked.Check follow area quiet why file) h = absurd h
   by_showing (Asked.Explain area why file) h = absurd h
-  by_showing (Asked.Certify why trace history) h = absurd h
+  by_showing (Asked.Certify delayed why trace history) h = absurd h
   by_showing (Asked.Refute why trace refutation) h = absurd h
   by_showing (Asked.Observe witness refutation steps why trace) h = absurd h
   by_showing (Asked.Tell color file) h = absurd h

@@ -188,8 +188,9 @@ AsksBy name rows (Asked.Run shown flush why file) = (name ≡ codes "run") × Sa
 AsksBy name rows (Asked.Check follow area quiet why file) =
     (name ≡ codes "check") × SaysCheck rows follow area quiet why file.now
 AsksBy name rows (Asked.Explain area why file) = (name ≡ codes "explain") × SaysExplain rows area why file.now
-AsksBy name rows (Asked.Certify why trace history) =
-    (name ≡ codes "certify") × SaysBeside (codes "HISTORY") rows why trace.now history.now
+AsksBy name rows (Asked.Certify delayed why trace history) =
+    (name ≡ codes "certify") × SaysFlag (codes "delayed") rows delayed
+    × SaysBeside (codes "HISTORY") rows why trace.now history.now
 AsksBy name rows (Asked.Refute why trace refutation) =
     (name ≡ codes "refute") × SaysBeside (codes "REFUTATION") rows why trace.now refutation.now
 AsksBy name rows (Asked.Observe witness refutation steps why trace) =

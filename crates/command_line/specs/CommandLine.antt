@@ -94,7 +94,7 @@ beside_app a name =
 
 -- the command `certify` with its files
 abbrev pub certify_app : App
-certify_app = beside_app (new_app (codes "certify")) (codes "HISTORY")
+certify_app = beside_app (with_rule (new_app (codes "certify")) (flag_rule (codes "delayed"))) (codes "HISTORY")
 
 -- the command `refute` with its files
 abbrev pub refute_app : App

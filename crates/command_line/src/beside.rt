@@ -20,7 +20,13 @@ that was rung and for each completion that was taken, with the data that was rea
 the same configuration line. K counts from 1 behind it: in 'bad at K' the lines of the history, as
 'check' does; in 'seen K' those of the trace. See docs/OBSERVING.md.
 
+With '--delayed' a publish may have come later than the trace has it, and a reap earlier, as where a
+host wrote it down before it rang the doorbell, or after it read the completion: those of a queue stay
+in order, and no reap stands before a publish that came before it.
+
 Exit status: 0 where the history is legal and was seen as the trace, 1 where it isn't or wasn't.";
+
+const DELAYED: &str = "A publish may be logged before it came, and a reap after it came";
 
 const ABOUT_REFUTE: &str = "\
 Checks what is said to refute a trace: prints 'refuted: the first K lines', or 'not refuted: ' and why";
@@ -53,6 +59,7 @@ pub(crate) fn certify_command<'a>(alloc: Global) -> Result<Command<'a>, AllocErr
     let command = Command::new(alloc, "certify")
         .about(ABOUT)
         .after_help(ABOUT_TRACES);
+    let command = with(alloc, command, "delayed", Flag, DELAYED)?;
     with_files(alloc, command, "HISTORY", HISTORY)
 }
 
@@ -87,6 +94,7 @@ pub(crate) fn certify_asked<'a>(
         return Err(text_of(alloc, "error: TRACE and HISTORY are both standard input"));
     }
     Ok(Asked::Certify {
+        delayed: flag_asked(matches, "delayed"),
         why: flag_asked(matches, "why"),
         trace,
         history,

@@ -51,8 +51,9 @@ pub enum Asked<'a> {
         why: bool,
         file: &'a str,
     },
-    /// To compare the history in one file with what hosts saw, in another.
+    /// To compare the history in one file with what hosts saw, in another, which may have been logged with delays.
     Certify {
+        delayed: bool,
         why: bool,
         trace: &'a str,
         history: &'a str,

@@ -33,18 +33,18 @@ module _ (o : TraceOptions) (b c : ConfigNumbers) (things : List Seen) (r : Cert
   -- both were read, and this was answered on what they say
   pub refuted : (answer : Bool) (res : Result Bool RefuteFault) (t u x l v w : Option (List ℕ))
       → IsAtEnd u × IfSome t (IsTrace o b c things) → IsAtEnd l × IfSome x IsSaid → RefutesTrace o c things r answer
-      → TellsRefuted (verdict_of answer o things r) answer res v w → RefutesText res t u x l v w
+      → TellsRefuted (verdict_of answer things r) answer res v w → RefutesText res t u x l v w
   refuted answer (Ok a) t u x l v w read said holds told = (
     read.0,
     said.0,
     has_both
-        (λ p k xs s. RefutesTrace p k xs s a × Appends v w (refute_text (verdict_of a p xs s))) t x read.1 said.1
-        (subst (λ (d : Bool). RefutesTrace o c things r d × Appends v w (refute_text (verdict_of d o things r)))
+        (λ p k xs s. RefutesTrace p k xs s a × Appends v w (refute_text (verdict_of a xs s))) t x read.1 said.1
+        (subst (λ (d : Bool). RefutesTrace o c things r d × Appends v w (refute_text (verdict_of d things r)))
         (sym told.0) (holds, told.1)),
   )
   refuted answer (Err Output) t u x l v w read said holds told =
       has_both
-      (λ p k xs s. (d : Bool) × RefutesTrace p k xs s d × AppendsFront v w (refute_text (verdict_of d p xs s)))
+      (λ p k xs s. (d : Bool) × RefutesTrace p k xs s d × AppendsFront v w (refute_text (verdict_of d xs s)))
       t x read.1 said.1 (answer, holds, told)
   refuted answer (Err (Trace f)) t u x l v w read said holds told = absurd told
   refuted answer (Err (Refutation f)) t u x l v w read said holds told = absurd told

@@ -9,7 +9,7 @@ use Rattle.nvme_model.specs.declared.config.ConfigNumbers.{ConfigNumbers}
 use Rattle.history.specs.Texts.{history_text}
 use Rattle.refutation.specs.Refutations.{Refutation}
 use Rattle.refutation.specs.Texts.{refutation_text}
-use Rattle.refutation_search.specs.Found.{Refutes}
+use Rattle.trace_search.specs.Found.{Refutes}
 use Rattle.trace.specs.Aside.{history_numbers}
 use Rattle.trace.specs.Observed.{Explains}
 use Rattle.trace.specs.declared.options.TraceOptions.{TraceOptions}

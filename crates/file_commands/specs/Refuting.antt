@@ -18,10 +18,10 @@ use Rattle.casdisk_texts.specs.declared.fault.RunFault.TheVariants.{BadConfig, B
 use Rattle.casdisk_texts.specs.declared.fault.RunFault.TheVariants as RunFaults
 use Rattle.refutation.specs.Refutations.{Refutation as Certificate}
 use Rattle.refutation.specs.Texts.{refutation_in}
-use Rattle.refutation_laws.specs.Refuted.{is_refuted}
+use Rattle.refutation.specs.Refuted.{is_refuted}
 use Rattle.file_commands.specs.declared.refute_fault.RefuteFault.{RefuteFault}
 use Rattle.file_commands.specs.declared.refuting.RefuteVerdict.{RefuteVerdict}
-use Rattle.file_commands.specs.declared.refuting.RefuteVerdict.TheVariants.{Fewer, Ordered, Refuted, Right, Unknown}
+use Rattle.file_commands.specs.declared.refuting.RefuteVerdict.TheVariants.{Fewer, Ordered, Refuted, Right}
 use Rattle.file_commands.specs.declared.refute_fault.RefuteFault.TheVariants.{Output, Refutation, Trace}
 
 -- the status with which the program ends then
@@ -34,14 +34,12 @@ refute_status Output = 3
 abbrev pub is_of_lines : Certificate → Bool
 is_of_lines r = (length r.blocks == 0) && (length r.commands == 0)
 
--- What is said of these things, the oldest first: that they are refuted; else what fails first: what is known of the
--- beginning, how many lines there are, the rules of the last line, or that the effects have no order.
-abbrev pub verdict_of : Bool → TraceOptions → List Seen → Certificate → RefuteVerdict
-verdict_of true o things r = Refuted r.lines
-verdict_of false o things r =
-    if o.contents_unknown then Unknown
-    else (if nat_lt (length things) r.lines then Fewer (length things)
-    else (if is_of_lines r then Right r.lines else Ordered))
+-- What is said of these things, the oldest first: that they are refuted; else what fails first: how many lines there
+-- are, the rules of the last line, or that the effects have no order.
+abbrev pub verdict_of : Bool → List Seen → Certificate → RefuteVerdict
+verdict_of true things r = Refuted r.lines
+verdict_of false things r =
+    if nat_lt (length things) r.lines then Fewer (length things) else (if is_of_lines r then Right r.lines else Ordered)
 
 -- a number behind these words, and these behind it
 abbrev pub counted_text : List ℕ → ℕ → List ℕ → List ℕ
@@ -50,7 +48,6 @@ counted_text before n behind = join_with_byte 32 (before ∷ decimal n ∷ []) +
 -- the line of a verdict
 abbrev pub refute_text : RefuteVerdict → List ℕ
 refute_text (Refuted lines) = counted_text (codes "refuted: the first") lines (codes " lines" ++ 10 ∷ [])
-refute_text Unknown = codes "not refuted: what blocks held at the beginning is unknown" ++ 10 ∷ []
 refute_text (Fewer lines) = counted_text (codes "not refuted: the trace has") lines (codes " lines" ++ 10 ∷ [])
 refute_text (Right line) = counted_text (codes "not refuted: line") line (codes " may be right" ++ 10 ∷ [])
 refute_text Ordered = codes "not refuted: the effects may have been in some order" ++ 10 ∷ []
@@ -81,11 +78,11 @@ abbrev pub RefutesText : Result Bool RefuteFault →
 RefutesText (Ok answer) trace trace_left refutation refutation_left old new =
     IsAtEnd trace_left × IsAtEnd refutation_left × IfSome trace (λ t. IfSome refutation (λ text.
     HasTrace (λ o c things. HasRefutation (λ r. RefutesTrace o (history_numbers o c) things r answer
-    × Appends old new (refute_text (verdict_of answer o things r))) text) t))
+    × Appends old new (refute_text (verdict_of answer things r))) text) t))
 RefutesText (Err Output) trace trace_left refutation refutation_left old new =
     IfSome trace (λ t. IfSome refutation (λ text. HasTrace (λ o c things. HasRefutation (λ r.
     (answer : Bool) × RefutesTrace o (history_numbers o c) things r answer
-    × AppendsFront old new (refute_text (verdict_of answer o things r))) text) t))
+    × AppendsFront old new (refute_text (verdict_of answer things r))) text) t))
 RefutesText (Err (Trace f)) trace trace_left refutation refutation_left old new =
     IsTraceUnread f trace trace_left × Keeps old new
 RefutesText (Err (Refutation f)) trace trace_left refutation refutation_left old new =

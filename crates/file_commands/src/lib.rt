@@ -12,6 +12,7 @@ mod opening;
 mod reading;
 mod refute_fault;
 mod refuting;
+mod slice_facts;
 mod slice_words;
 mod telling;
 mod words;

@@ -1,27 +1,28 @@
 //! The text of a trace, and a history that explains it, or what refutes it.
 
-ghost use Rattle.std.specs.Prelude.{◌≡◌, ◌⊎◌, IfErr, IfOk, OnOk, reverse};
+ghost use Rattle.std.specs.Prelude.{◌≡◌, ◌⊎◌, IfErr, IfOk, IfSome, OnOk, reverse};
 ghost use Rattle.std.specs.Io.KnownBytes.{Appends};
 ghost use Rattle.casdisk_texts.specs.declared.fault.RunFault.{RunFault as Fault};
 ghost use Rattle.history.specs.Texts.{history_text};
 ghost use Rattle.refutation.specs.Texts.{refutation_text};
-ghost use Rattle.refutation_search.specs.Found.{Refutes};
+ghost use Rattle.trace_search.specs.Found.{Refutes};
 ghost use Rattle.trace.specs.Observed.{Explains};
 ghost use Rattle.trace_search.specs.Observed.{IsExplained};
 ghost use Rattle.file_commands.specs.Observing.{AnswersTrace, ObservesText};
 
 use crate::answer::TraceAnswer;
-use crate::slice_words::send_slice;
+use crate::slice_words::{Told, send_slice};
 use crate::words::send_reason;
 use casdisk_texts::{RunFault, Trace, read_trace};
 use history::{Config, Entry, PrintFault, print_history};
 use line_text::{Word, send, send_words};
 use refutation::{Refutation, write_refutation};
-use refutation_search::{find_bad_line, find_on_blocks, find_refutation};
 use std::alloc::Global;
 use std::io::{Read, Result as IoResult, Write};
 use trace::{Seen, TraceOptions};
-use trace_search::{Observed, Unexplained, observe};
+use trace_search::{
+    Observed, Unexplained, find_bad_line, find_on_blocks, find_refutation, observe,
+};
 
 // How many steps of search come first.
 const FEW_STEPS: u64 = 200_000;
@@ -113,6 +114,15 @@ fn in_file(options: &TraceOptions, reason: Unexplained) -> Unexplained {
     }
 }
 
+// Of which things a refutation is told, behind this reason.
+fn told_of<'a>(trace: &'a Trace, reason: Option<&'a Unexplained>) -> Told<'a> {
+    Told {
+        things: trace.things.as_slice(),
+        head: lines_before(&trace.options),
+        reason,
+    }
+}
+
 // Writes up to which line there is no history, and why; the commands of a refutation, where there is one.
 fn tell_reason<W: Write>(
     trace: &Trace,
@@ -123,15 +133,8 @@ fn tell_reason<W: Write>(
     let reason = in_file(&trace.options, reason);
     match refutation {
         Some(refutation) => {
-            let head = lines_before(&trace.options);
             send_reason(b"refuted:", &reason, writer)?;
-            send_slice(
-                refutation,
-                trace.things.as_slice(),
-                head,
-                Some(&reason),
-                writer,
-            )?;
+            send_slice(refutation, &told_of(trace, Some(&reason)), writer)?;
         }
         None => send_reason(b"not found:", &reason, writer)?,
     }
@@ -147,7 +150,7 @@ fn tell_slice<W: Write>(trace: &Trace, refutation: &Refutation, writer: &mut W) 
         &[Word::Text(b"refuted: up to line"), Word::Number(line)],
     )?;
     send(writer, b": ")?;
-    send_slice(refutation, trace.things.as_slice(), head, None, writer)?;
+    send_slice(refutation, &told_of(trace, None), writer)?;
     send(writer, b"\n")
 }
 
@@ -169,26 +172,22 @@ fn tell_refuted<V: Write, W: Write>(
     }
 }
 
-// Looks for what refutes things where a search gave up, and writes it and what is said.
-fn tell_undecided<V: Write, W: Write>(
-    alloc: Global,
-    trace: &Trace,
-    witness: &mut V,
-    writer: &mut W,
-) -> Result<TraceAnswer, RunFault>
-    ensures told { AnswersTrace trace.now.options trace.now.history trace.now.things.items result
-        (V.contents witness.old) (V.contents witness.new) (W.contents writer.old) (W.contents writer.new) }
+// Looks for what refutes things: a line that breaks a rule by itself, or what happened to a few blocks.
+fn find_any(alloc: Global, trace: &Trace) -> Result<Option<Refutation>, RunFault>
+    ensures found { IfOk result (λ found. IfSome found
+        (Refutes trace.now.options trace.now.history (reverse trace.now.things.items))) }
+    ensures fault { IfErr result (λ f. f ≡ Fault.NoMemory) }
 {
     let things = trace.things.as_slice();
-    let Ok(found) = find_on_blocks(alloc, &trace.options, &trace.history, things) else {
+    let Ok(bad) = find_bad_line(alloc, &trace.options, &trace.history, things) else {
         return Err(RunFault::NoMemory);
     };
-    match found {
-        Some(refutation) => tell_refuted(trace, &refutation, witness, writer),
-        None => {
-            send_answer(b"gave up\n", writer)?;
-            Ok(TraceAnswer::GaveUp)
-        }
+    if bad.is_some() {
+        return Ok(bad);
+    }
+    match find_on_blocks(alloc, &trace.options, &trace.history, things) {
+        Ok(found) => Ok(found),
+        Err(_) => Err(RunFault::NoMemory),
     }
 }
 
@@ -203,17 +202,7 @@ fn tell_open<V: Write, W: Write>(
     ensures told { AnswersTrace trace.now.options trace.now.history trace.now.things.items result
         (V.contents witness.old) (V.contents witness.new) (W.contents writer.old) (W.contents writer.new) }
 {
-    let things = trace.things.as_slice();
-    let Ok(bad) = find_bad_line(alloc, &trace.options, &trace.history, things) else {
-        return Err(RunFault::NoMemory);
-    };
-    if let Some(refutation) = bad {
-        return tell_refuted(trace, &refutation, witness, writer);
-    }
-    let Ok(found) = find_on_blocks(alloc, &trace.options, &trace.history, things) else {
-        return Err(RunFault::NoMemory);
-    };
-    match found {
+    match find_any(alloc, trace)? {
         Some(refutation) => tell_refuted(trace, &refutation, witness, writer),
         None => match tell_reason(trace, reason, None, writer) {
             Ok(()) => Ok(TraceAnswer::NotFound),
@@ -271,7 +260,10 @@ fn tell_found<V: Write, W: Write>(
             writer,
         ),
         Observed::NotFound(reason) => tell_unfound(alloc, trace, reason, witness, writer),
-        Observed::GaveUp => tell_undecided(alloc, trace, witness, writer),
+        Observed::GaveUp => {
+            send_answer(b"gave up\n", writer)?;
+            Ok(TraceAnswer::GaveUp)
+        }
     }
 }
 
@@ -295,8 +287,7 @@ fn search(alloc: Global, trace: &Trace, steps: u64) -> Result<Observed, RunFault
     }
 }
 
-// Looks for a line that breaks a rule by itself, and then for a history in all steps, and writes what was found and
-// what is said.
+// Looks for what refutes things, and then for a history in all steps, and writes what was found and what is said.
 fn tell_hard<V: Write, W: Write>(
     alloc: Global,
     trace: &Trace,
@@ -307,15 +298,13 @@ fn tell_hard<V: Write, W: Write>(
     ensures told { AnswersTrace trace.now.options trace.now.history trace.now.things.items result
         (V.contents witness.old) (V.contents witness.new) (W.contents writer.old) (W.contents writer.new) }
 {
-    let things = trace.things.as_slice();
-    let Ok(bad) = find_bad_line(alloc, &trace.options, &trace.history, things) else {
-        return Err(RunFault::NoMemory);
-    };
-    if let Some(refutation) = bad {
-        return tell_refuted(trace, &refutation, witness, writer);
+    match find_any(alloc, trace)? {
+        Some(refutation) => tell_refuted(trace, &refutation, witness, writer),
+        None => {
+            let found = search(alloc, trace, steps)?;
+            tell_found(alloc, trace, found, witness, writer)
+        }
     }
-    let found = search(alloc, trace, steps)?;
-    tell_found(alloc, trace, found, witness, writer)
 }
 
 // Looks for a history that explains what was seen, in a few steps first, and writes what was found and what is said.
@@ -329,18 +318,9 @@ fn tell_trace<V: Write, W: Write>(
     ensures told { AnswersTrace trace.now.options trace.now.history trace.now.things.items result
         (V.contents witness.old) (V.contents witness.new) (W.contents writer.old) (W.contents writer.new) }
 {
-    let found = search(alloc, trace, steps.min(FEW_STEPS))?;
-    match found {
+    match search(alloc, trace, steps.min(FEW_STEPS))? {
         Observed::GaveUp => tell_hard(alloc, trace, steps, witness, writer),
-        Observed::NotFound(_) => {
-            // (which first lines have no history is told by all steps)
-            let found = search(alloc, trace, steps)?;
-            tell_found(alloc, trace, found, witness, writer)
-        }
-        Observed::Explained(entries) => {
-            let found = Observed::Explained(entries);
-            tell_found(alloc, trace, found, witness, writer)
-        }
+        found => tell_found(alloc, trace, found, witness, writer),
     }
 }
 

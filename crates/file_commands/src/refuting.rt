@@ -19,8 +19,6 @@ use std::io::{ErrorKind, Read, Result as IoResult, Write};
 pub enum RefuteVerdict {
     /// The first so many lines are refuted.
     Refuted(u64),
-    /// What blocks held at the beginning is unknown.
-    Unknown,
     /// The trace has so many lines, which are fewer.
     Fewer(usize),
     /// This line breaks no rule.
@@ -51,13 +49,11 @@ fn read_certificate<R: Read>(alloc: Global, reader: &mut R) -> Result<Refutation
 
 // What is said where a refutation refutes a trace, or doesn't.
 fn verdict_of(refuted: bool, trace: &Trace, refutation: &Refutation) -> RefuteVerdict
-    ensures value { result ≡ the_verdict refuted trace.now.options trace.now.things.items refutation.now }
+    ensures value { result ≡ the_verdict refuted trace.now.things.items refutation.now }
 {
     let lines = refutation.lines();
     if refuted {
         RefuteVerdict::Refuted(lines)
-    } else if trace.options.contents_unknown {
-        RefuteVerdict::Unknown
     } else if (trace.things.len() as u64) < lines {
         RefuteVerdict::Fewer(trace.things.len())
     } else if refutation.blocks().is_empty() && refutation.commands().is_empty() {
@@ -88,10 +84,6 @@ fn send_verdict<W: Write>(verdict: RefuteVerdict, writer: &mut W) -> IoResult<()
         RefuteVerdict::Refuted(lines) => {
             send_counted(b"refuted: the first", lines, b" lines\n", writer)
         }
-        RefuteVerdict::Unknown => send(
-            writer,
-            b"not refuted: what blocks held at the beginning is unknown\n",
-        ),
         RefuteVerdict::Fewer(lines) => send_counted(
             b"not refuted: the trace has",
             lines as u64,

@@ -1,7 +1,7 @@
 -- What a port did, as a driver's contracts see it.
 use Rattle.std.specs.Prelude.{List, [], ◌∷◌}
 use Rattle.driver_calls.specs.declared.event.PortEvent.{PortEvent}
-use Rattle.port_example.specs.declared.Done.{Done, Got', Nothing, Sent'}
+use Rattle.port_example.specs.declared.mailbox.Done.{Done, Got', Nothing, Sent'}
 
 -- the events, the newest first
 abbrev pub log_of : Done → List PortEvent

@@ -9,8 +9,8 @@ use Rattle.nvme_model.specs.Tickets.{first_fields}
 use Rattle.nvme_model.specs.declared.operation.Op.{Op}
 use Rattle.nvme_model.specs.declared.submission.Submission.{Submission}
 use Rattle.trace.specs.declared.seen.Seen.{Seen}
-use Rattle.refutation_laws.specs.Lines.{published_in}
-use Rattle.refutation_laws.specs.Told.{told_ticket}
+use Rattle.refutation.specs.Lines.{published_in}
+use Rattle.refutation.specs.Told.{told_ticket}
 use Rattle.refutation_check.specs.Commands.{entry_op}
 use Rattle.refutation_check.specs.EntryData.{block_of, found_payload, found_slba}
 use Rattle.refutation_check.proofs.Units.{no_command, none_there}

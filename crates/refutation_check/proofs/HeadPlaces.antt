@@ -4,8 +4,8 @@ use Rattle.std.proofs.Common.{true, ℕ, [], ◌++◌, ◌<◌, ◌≤◌, ◌�
 use Rattle.std.proofs.lemmas.Bool.{ltb-false}
 use Rattle.nvme_model.specs.declared.config.ConfigNumbers.{ConfigNumbers}
 use Rattle.trace.specs.declared.seen.Seen.{Seen}
-use Rattle.refutation_laws.specs.EffectOrders.{EffectName, before_post, is_fetched_later}
-use Rattle.refutation_laws.specs.Places.{head_place, larger}
+use Rattle.refutation.specs.EffectOrders.{EffectName, before_post, is_fetched_later}
+use Rattle.refutation.specs.Places.{head_place, larger}
 use Rattle.refutation_check.specs.ToldHeads.{heads_in, place_of, place_with, told_head}
 use Rattle.refutation_check.specs.declared.told_heads.ToldHead.{ToldHead}
 

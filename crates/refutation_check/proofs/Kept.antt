@@ -17,10 +17,10 @@ use Rattle.nvme_model.specs.declared.submission.Submission.{Submission}
 use Rattle.nvme_model.proofs.Lists.{Each}
 use Rattle.host_laws.proofs.Changes.{Inside, units_inside}
 use Rattle.trace.specs.declared.seen.Seen.{Seen}
-use Rattle.refutation_laws.specs.EffectOrders.{EffectName}
-use Rattle.refutation_laws.specs.Lines.{answer_in, published_in}
-use Rattle.refutation_laws.specs.Slices.{effects_of_command, is_block_of, may_write, says_failed}
-use Rattle.refutation_laws.specs.Told.{told_ticket, told_units}
+use Rattle.refutation.specs.EffectOrders.{EffectName}
+use Rattle.refutation.specs.Lines.{answer_in, published_in}
+use Rattle.refutation.specs.Slices.{effects_of_command, is_block_of, may_write, says_failed}
+use Rattle.refutation.specs.Told.{told_ticket, told_units}
 use Rattle.refutation_check.specs.Collected.{effects_from, has_blocks}
 use Rattle.refutation_check.specs.Commands.{entry_op, found_units}
 use Rattle.refutation_check.proofs.Named.{all_or_none}

@@ -9,11 +9,11 @@ use Rattle.nvme_model.specs.Operations.{write_data}
 use Rattle.nvme_model.specs.declared.config.ConfigNumbers.{ConfigNumbers}
 use Rattle.trace.specs.declared.options.TraceOptions.{TraceOptions}
 use Rattle.trace.specs.declared.seen.Seen.{Seen}
-use Rattle.refutation_laws.specs.EffectOrders.{EffectName, comes_before}
-use Rattle.refutation_laws.specs.Slices.{answer_of, is_named, none_else, ticket_of}
-use Rattle.refutation_laws.specs.Told.{says_done}
-use Rattle.refutation_laws.specs.Writers.{is_covered_by, none_by, writers_in}
-use Rattle.refutation_laws.proofs.Writers.{none_by_writers}
+use Rattle.refutation.specs.EffectOrders.{EffectName, comes_before}
+use Rattle.refutation.specs.Slices.{answer_of, is_named, none_else, ticket_of}
+use Rattle.refutation.specs.Told.{says_done}
+use Rattle.refutation.specs.Writers.{is_covered_by, none_by, writers_in}
+use Rattle.refutation.proofs.Writers.{none_by_writers}
 use Rattle.refutation_check.specs.Commands.{name_of}
 use Rattle.refutation_check.specs.Leaving.{may_leave, was_before}
 use Rattle.refutation_check.specs.declared.order.Effect.{Effect}

@@ -11,10 +11,10 @@ use Rattle.nvme_model.specs.Operations.{has_write, op}
 use Rattle.nvme_model.specs.declared.array.Range.{Range}
 use Rattle.nvme_model.specs.declared.config.ConfigNumbers.{ConfigNumbers}
 use Rattle.trace.specs.declared.seen.Seen.{Seen}
-use Rattle.refutation_laws.specs.EffectOrders.{EffectName}
-use Rattle.refutation_laws.specs.Lines.{answer_in}
-use Rattle.refutation_laws.specs.Slices.{each_once, effects_of_command, is_named, is_piece, same_effect}
-use Rattle.refutation_laws.specs.Told.{says_differs, says_done, told_ticket, told_units}
+use Rattle.refutation.specs.EffectOrders.{EffectName}
+use Rattle.refutation.specs.Lines.{answer_in}
+use Rattle.refutation.specs.Slices.{each_once, effects_of_command, is_named, is_piece, same_effect}
+use Rattle.refutation.specs.Told.{says_differs, says_done, told_ticket, told_units}
 use Rattle.refutation_check.specs.Collected.{are_pieces, effects_from}
 use Rattle.refutation_check.specs.Commands.{name_of}
 use Rattle.refutation_check.specs.declared.order.Effect.{Effect}

@@ -4,10 +4,10 @@ use Rattle.nvme_model.specs.Config.{completion_queue}
 use Rattle.nvme_model.specs.declared.config.ConfigNumbers.{ConfigNumbers}
 use Rattle.trace.specs.declared.options.TraceOptions.{TraceOptions}
 use Rattle.trace.specs.declared.seen.Seen.{Seen}
-use Rattle.refutation_laws.specs.EffectOrders.{EffectName, comes_before, is_earlier_unit}
-use Rattle.refutation_laws.specs.Places.{answer_place, is_among, place_before}
-use Rattle.refutation_laws.specs.Told.{is_sure}
-use Rattle.refutation_laws.proofs.Places.{comes_by_place}
+use Rattle.refutation.specs.EffectOrders.{EffectName, comes_before, is_earlier_unit}
+use Rattle.refutation.specs.Places.{answer_place, is_among, place_before}
+use Rattle.refutation.specs.Told.{is_sure}
+use Rattle.refutation.proofs.Places.{comes_by_place}
 
 turned : (e m s : Bool) → (e || (m && s)) ≡ ((s && m) || e)
 turned true true true = refl

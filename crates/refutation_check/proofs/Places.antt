@@ -7,7 +7,7 @@ use Rattle.std.proofs.lemmas.List.{append-nil, length-append, length-reverse, re
 use Rattle.plain_lemmas.proofs.Lists.{at_last}
 use Rattle.trace.specs.declared.seen.Seen.{Seen}
 use Rattle.nvme_model.specs.EntryBytes.{cqe_fields}
-use Rattle.refutation_laws.specs.Lines.{answer_in, answered, is_number, published_in}
+use Rattle.refutation.specs.Lines.{answer_in, answered, is_number, published_in}
 use Rattle.refutation_check.specs.Answers.{answer_place, entry_at, entry_of, entry_place, reaped_at, reaped_of}
 use Rattle.refutation_check.specs.declared.tables.EntryPlace.{EntryPlace}
 

@@ -7,8 +7,8 @@ use Rattle.std.proofs.lemmas.Bool.{cond-false, cond-true, eqb-false, eqb-true, l
 use Rattle.std.proofs.lemmas.Bool.{lt-leb, ltb-false, ltb-true, true≢false}
 use Rattle.std.proofs.lemmas.List.{length-reverse}
 use Rattle.trace.specs.declared.seen.Seen.{Seen}
-use Rattle.refutation_laws.specs.EffectOrders.{through_entries, through_reaps}
-use Rattle.refutation_laws.specs.Lines.{published_in, reaped_in}
+use Rattle.refutation.specs.EffectOrders.{through_entries, through_reaps}
+use Rattle.refutation.specs.Lines.{published_in, reaped_in}
 use Rattle.refutation_check.specs.Answers.{entry_place}
 use Rattle.refutation_check.specs.Posts.{reap_end}
 use Rattle.refutation_check.specs.declared.tables.EntryPlace.{EntryPlace}

@@ -2,9 +2,9 @@
 use Rattle.std.proofs.Common.{Bool, List, [], ap, arith, cond, false, get_or, length, map, suc, sym, take, true, ℕ}
 use Rattle.std.proofs.Common.{◌++◌, ◌+◌, ◌<◌, ◌∙◌, ◌∷◌, ◌≡◌}
 use Rattle.std.proofs.lemmas.List.{length-map, length-take, map-append, map_more}
-use Rattle.slice_orders.specs.Pieces.{Piece}
-use Rattle.refutation_laws.specs.EffectOrders.{EffectName}
-use Rattle.refutation_laws.specs.Slices.{numbers_where}
+use Rattle.refutation.specs.Pieces.{Piece}
+use Rattle.refutation.specs.EffectOrders.{EffectName}
+use Rattle.refutation.specs.Slices.{numbers_where}
 use Rattle.refutation_check.specs.Commands.{name_of}
 use Rattle.refutation_check.specs.declared.order.Effect.{Effect}
 

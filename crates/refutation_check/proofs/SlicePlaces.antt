@@ -7,8 +7,8 @@ use Rattle.std.proofs.lemmas.Bool.{and_parts, cases_Bool, cases_lt, cond-false, 
 use Rattle.nvme_model.specs.EntryBytes.{cqe_fields}
 use Rattle.nvme_model.specs.declared.entry.PublishLine.{PublishLine}
 use Rattle.trace.specs.declared.seen.Seen.{Seen}
-use Rattle.refutation_laws.specs.Lines.{answered, before_entry, is_number, published_in}
-use Rattle.refutation_laws.specs.Places
+use Rattle.refutation.specs.Lines.{answered, before_entry, is_number, published_in}
+use Rattle.refutation.specs.Places
 use Rattle.refutation_check.specs.Answers
 use Rattle.refutation_check.specs.Answers.{entry_place, placed}
 use Rattle.refutation_check.specs.declared.tables.EntryPlace.{EntryPlace}

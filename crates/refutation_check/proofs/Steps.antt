@@ -13,8 +13,8 @@ use Rattle.nvme_model.specs.declared.submission.Submission.{Submission}
 use Rattle.host_laws.specs.Book.{cid_of, with_entry, without_entry}
 use Rattle.trace.specs.declared.seen.ReapedLine.{ReapedLine}
 use Rattle.trace.specs.declared.seen.Seen.{Seen}
-use Rattle.refutation_laws.specs.Lines.{answered, has_free_cids, is_number, is_tidy, published_in, waiting_in}
-use Rattle.refutation_laws.specs.Lines.{with_batch}
+use Rattle.refutation.specs.Lines.{answered, has_free_cids, is_number, is_tidy, published_in, waiting_in}
+use Rattle.refutation.specs.Lines.{with_batch}
 use Rattle.refutation_check.specs.Answers.{KeptAnswers, KnowsAnswers, placed}
 use Rattle.refutation_check.specs.declared.tables.EntryPlace.{EntryPlace}
 

@@ -9,8 +9,8 @@ use Rattle.std.proofs.lemmas.List.{length-append}
 use Rattle.nvme_model.specs.declared.entry.PublishLine.{PublishLine}
 use Rattle.nvme_model.specs.declared.submission.Submission.{Submission}
 use Rattle.trace.specs.declared.seen.Seen.{Seen}
-use Rattle.refutation_laws.specs.Lines.{before_entry, published_in}
-use Rattle.refutation_laws.specs.MayAnswer.{are_together}
+use Rattle.refutation.specs.Lines.{before_entry, published_in}
+use Rattle.refutation.specs.MayAnswer.{are_together}
 use Rattle.refutation_check.specs.Answers.{are_at_one_line, entry_place}
 use Rattle.refutation_check.specs.declared.tables.EntryPlace.{EntryPlace}
 use Rattle.refutation_check.proofs.Places.{within}

@@ -7,9 +7,9 @@ use Rattle.nvme_model.specs.declared.array.Range.{Range}
 use Rattle.nvme_model.specs.declared.config.ConfigNumbers.{ConfigNumbers}
 use Rattle.nvme_model.specs.declared.submission.Submission.{Submission}
 use Rattle.trace.specs.declared.seen.Seen.{Seen}
-use Rattle.refutation_laws.specs.EffectOrders.{last_entry}
-use Rattle.refutation_laws.specs.Lines.{published_in}
-use Rattle.refutation_laws.specs.Told.{told_units}
+use Rattle.refutation.specs.EffectOrders.{last_entry}
+use Rattle.refutation.specs.Lines.{published_in}
+use Rattle.refutation.specs.Told.{told_units}
 use Rattle.refutation_check.specs.Commands.{entry_op, entry_units, found_last, found_units}
 
 abbrev pub no_command : Submission

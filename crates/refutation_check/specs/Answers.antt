@@ -8,7 +8,7 @@ use Rattle.nvme_model.specs.declared.submission.Submission.{Submission}
 use Rattle.host_laws.specs.Book.{Book}
 use Rattle.trace.specs.declared.seen.ReapedLine.{ReapedLine}
 use Rattle.trace.specs.declared.seen.Seen.{Seen}
-use Rattle.refutation_laws.specs.Lines.{answered, is_number, is_tidy, published_in, waiting_in}
+use Rattle.refutation.specs.Lines.{answered, is_number, is_tidy, published_in, waiting_in}
 use Rattle.refutation_check.specs.declared.tables.EntryCid.{EntryCid}
 use Rattle.refutation_check.specs.declared.tables.EntryNumber.{EntryNumber}
 use Rattle.refutation_check.specs.declared.tables.EntryPlace.{EntryPlace}

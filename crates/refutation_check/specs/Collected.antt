@@ -9,8 +9,8 @@ use Rattle.nvme_model.specs.declared.array.Range.{Range}
 use Rattle.nvme_model.specs.declared.operation.Op.{Op}
 use Rattle.nvme_model.specs.declared.submission.Submission.{Submission}
 use Rattle.trace.specs.declared.seen.ReapedLine.{ReapedLine}
-use Rattle.refutation_laws.specs.EffectOrders.{EffectName}
-use Rattle.refutation_laws.specs.Told.{says_differs, says_done}
+use Rattle.refutation.specs.EffectOrders.{EffectName}
+use Rattle.refutation.specs.Told.{says_differs, says_done}
 
 -- the range has the block, where one is asked for
 abbrev pub has_asked : Option ℕ → Range → Bool

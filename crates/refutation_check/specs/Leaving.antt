@@ -4,9 +4,9 @@ use Rattle.nvme_model.specs.Operations.{write_data}
 use Rattle.nvme_model.specs.declared.config.ConfigNumbers.{ConfigNumbers}
 use Rattle.trace.specs.declared.options.TraceOptions.{TraceOptions}
 use Rattle.trace.specs.declared.seen.Seen.{Seen}
-use Rattle.refutation_laws.specs.EffectOrders.{EffectName, comes_before}
-use Rattle.refutation_laws.specs.Slices.{answer_of, is_named, ticket_of}
-use Rattle.refutation_laws.specs.Told.{says_done}
+use Rattle.refutation.specs.EffectOrders.{EffectName, comes_before}
+use Rattle.refutation.specs.Slices.{answer_of, is_named, ticket_of}
+use Rattle.refutation.specs.Told.{says_done}
 
 -- Writer y of block l, none of the named ones, leaves there what `fits` says of, and r doesn't come before it.
 abbrev pub may_leave : TraceOptions → ConfigNumbers → List Seen → List EffectName → EffectName → ℕ → (List ℕ → Bool)

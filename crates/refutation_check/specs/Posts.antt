@@ -5,9 +5,9 @@ use Rattle.std.specs.Prelude.{◌∷◌, ◌≡◌}
 use Rattle.std.specs.HashMap.{get, get_by}
 use Rattle.nvme_model.specs.declared.config.ConfigNumbers.{ConfigNumbers}
 use Rattle.trace.specs.declared.seen.Seen.{Seen}
-use Rattle.refutation_laws.specs.EffectOrders.{before_post}
-use Rattle.refutation_laws.specs.LineRules.{least_fetched}
-use Rattle.refutation_laws.specs.Lines.{reaped_in}
+use Rattle.refutation.specs.EffectOrders.{before_post}
+use Rattle.refutation.specs.LineRules.{least_fetched}
+use Rattle.refutation.specs.Lines.{reaped_in}
 use Rattle.refutation_check.specs.declared.post_tables.PostTables.{PostTables}
 use Rattle.refutation_check.specs.declared.tables.EntryNumber.{EntryNumber}
 

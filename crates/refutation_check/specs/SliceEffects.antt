@@ -3,9 +3,9 @@ use Rattle.std.specs.Prelude.{Bool, List, map, not, ℕ, ◌&&◌}
 use Rattle.std.specs.Str.{bytes_eq}
 use Rattle.nvme_model.specs.Operations.{compare_data, op}
 use Rattle.nvme_model.specs.Verdict.{is_in}
-use Rattle.slice_orders.specs.Pieces.{Held}
-use Rattle.refutation_laws.specs.EffectOrders.{EffectName}
-use Rattle.refutation_laws.specs.Slices.{answer_data, answer_of, found_block, none_else, ticket_of}
+use Rattle.refutation.specs.Pieces.{Held}
+use Rattle.refutation.specs.EffectOrders.{EffectName}
+use Rattle.refutation.specs.Slices.{answer_data, answer_of, found_block, none_else, ticket_of}
 use Rattle.refutation_check.specs.Commands.{name_of}
 use Rattle.refutation_check.specs.Known.{config_of, options_of, trace_of}
 use Rattle.refutation_check.specs.declared.known.Chosen.{Chosen}

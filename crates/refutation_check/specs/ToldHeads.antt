@@ -5,8 +5,8 @@ use Rattle.nvme_model.specs.EntryBytes.{cqe_fields}
 use Rattle.nvme_model.specs.declared.config.ConfigNumbers.{ConfigNumbers}
 use Rattle.trace.specs.declared.seen.ReapedLine.{ReapedLine}
 use Rattle.trace.specs.declared.seen.Seen.{Seen}
-use Rattle.refutation_laws.specs.EffectOrders.{EffectName, before_post, most_fetched}
-use Rattle.refutation_laws.specs.Places.{larger}
+use Rattle.refutation.specs.EffectOrders.{EffectName, before_post, most_fetched}
+use Rattle.refutation.specs.Places.{larger}
 use Rattle.refutation_check.specs.declared.told_heads.ToldHead.{ToldHead}
 
 -- What the completion of this line tells, behind these lines: its submission queue, how many entries were fetched of it

@@ -5,7 +5,7 @@ ghost use Rattle.nvme_model.specs.Array.{zeros};
 ghost use Rattle.nvme_model.specs.EntryBytes.{slba};
 ghost use Rattle.nvme_model.specs.Operations.{compare_data, data_block, op, write_data};
 ghost use Rattle.nvme_model.specs.Tickets.{first_fields};
-ghost use Rattle.refutation_laws.specs.Slices.{answer_data, answer_of, found_block, ticket_of};
+ghost use Rattle.refutation.specs.Slices.{answer_data, answer_of, found_block, ticket_of};
 ghost use Rattle.refutation_check.specs.Commands.{name_of};
 ghost use Rattle.refutation_check.specs.EntryData.{block_of, found_payload, found_slba};
 ghost use Rattle.refutation_check.specs.Known.{IsKnown, trace_of};
@@ -21,7 +21,7 @@ use trace::ReapedLine;
 const ZEROS: [u8; 512] = [0; 512];
 
 // A block of zeros.
-fn zero_block() -> &'static [u8]
+pub(crate) fn zero_block() -> &'static [u8]
     ensures value { result.now ≡ zeros }
 {
     &ZEROS

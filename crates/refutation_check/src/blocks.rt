@@ -4,7 +4,7 @@ ghost use Rattle.std.specs.List.{filter};
 ghost use Rattle.std.specs.Prelude.{◌≡◌, IfOk};
 ghost use Rattle.nvme_model.specs.Array.{blocks_from};
 ghost use Rattle.nvme_model.specs.Verdict.{is_in};
-ghost use Rattle.refutation_laws.specs.Slices.{blocks_in, blocks_of, range_of};
+ghost use Rattle.refutation.specs.Slices.{blocks_in, blocks_of, range_of};
 ghost use Rattle.refutation_check.specs.Commands.{name_of};
 ghost use Rattle.refutation_check.specs.Known.{IsKnown, config_of, trace_of};
 

@@ -3,7 +3,7 @@
 ghost use Rattle.std.specs.Prelude.{◌≡◌, ◌≤◌, ◌+◌, IfOk, option_copied};
 ghost use Rattle.nvme_model.specs.Cut.{cut};
 ghost use Rattle.nvme_model.specs.Operations.{has_write};
-ghost use Rattle.refutation_laws.specs.Slices.{looks};
+ghost use Rattle.refutation.specs.Slices.{looks};
 ghost use Rattle.refutation_check.specs.Commands.{entry_op, entry_units, found_units};
 
 use entry_codec::decode_sqe;

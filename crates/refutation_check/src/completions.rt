@@ -4,9 +4,9 @@ ghost use Rattle.std.specs.Prelude.{◌≡◌, ◌<◌, ◌≤◌, length, not, 
 ghost use Rattle.nvme_model.specs.Completions.{phase};
 ghost use Rattle.nvme_model.specs.Config.{completion_queue};
 ghost use Rattle.refutation_check.specs.Counting.{is_reaped_from};
-ghost use Rattle.refutation_laws.specs.LineRules.{has_wrong_phase, names_wrong_queue};
-ghost use Rattle.refutation_laws.specs.Lines.{reaped_in};
-ghost use Rattle.refutation_laws.specs.ReadRules.{sets_read_bits};
+ghost use Rattle.refutation.specs.LineRules.{has_wrong_phase, names_wrong_queue};
+ghost use Rattle.refutation.specs.Lines.{reaped_in};
+ghost use Rattle.refutation.specs.ReadRules.{sets_read_bits};
 
 use crate::bytes::queue_of;
 use crate::fields::{is_clean, phase_of};

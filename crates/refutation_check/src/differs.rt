@@ -3,7 +3,7 @@
 ghost use Rattle.std.specs.List.{list_all};
 ghost use Rattle.std.specs.Prelude.{◌≡◌, ◌∷◌, [], IfOk, map};
 ghost use Rattle.nvme_model.specs.Operations.{compare_data};
-ghost use Rattle.refutation_laws.specs.Slices.{differs_of, ticket_of};
+ghost use Rattle.refutation.specs.Slices.{differs_of, ticket_of};
 ghost use Rattle.refutation_check.specs.Commands.{name_of};
 ghost use Rattle.refutation_check.specs.Known.{IsKnown, config_of, options_of, trace_of};
 ghost use Rattle.refutation_check.specs.SliceEffects.{differs_inside, names_of};
@@ -15,7 +15,7 @@ use crate::held::add_held;
 use crate::known::{Chosen, Known};
 use crate::order::Effect;
 use crate::writers::{Asked, none_else};
-use slice_orders::{HeldBlock, HeldBlocks};
+use refutation::{HeldBlock, HeldBlocks};
 use std::alloc::{AllocError as NoMemory, Global};
 
 fn differs_inside(

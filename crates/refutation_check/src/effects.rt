@@ -2,8 +2,8 @@
 
 ghost use Rattle.std.specs.Prelude.{◌≡◌, IfOk};
 ghost use Rattle.nvme_model.specs.Operations.{op};
-ghost use Rattle.refutation_laws.specs.Slices.{answer_of, range_of, ticket_of};
-ghost use Rattle.refutation_laws.specs.Told.{says_differs};
+ghost use Rattle.refutation.specs.Slices.{answer_of, range_of, ticket_of};
+ghost use Rattle.refutation.specs.Told.{says_differs};
 ghost use Rattle.refutation_check.specs.Commands.{name_of};
 ghost use Rattle.refutation_check.specs.Known.{IsKnown, config_of, trace_of};
 

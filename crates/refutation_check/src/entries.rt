@@ -6,11 +6,11 @@ ghost use Rattle.nvme_model.specs.EntryBytes.{block_count, sqe_fields};
 ghost use Rattle.nvme_model.specs.Statuses.{missing_fused, same_status};
 ghost use Rattle.host_laws.specs.Calls.{cqe_status};
 ghost use Rattle.trace.specs.declared.seen.Seen.{Seen};
-ghost use Rattle.refutation_laws.specs.LineRules.{answers_apart, has_early_second, has_wrong_data, has_wrong_second};
-ghost use Rattle.refutation_laws.specs.LineRules.{is_apart_from, is_second_apart, is_second_early, names_no_entry};
-ghost use Rattle.refutation_laws.specs.LineRules.{number_owes_other, owes_other_data};
-ghost use Rattle.refutation_laws.specs.Lines.{answer_in, answered, published_in};
-ghost use Rattle.refutation_laws.specs.MayAnswer.{data_owed, has_fuse};
+ghost use Rattle.refutation.specs.LineRules.{answers_apart, has_early_second, has_wrong_data, has_wrong_second};
+ghost use Rattle.refutation.specs.LineRules.{is_apart_from, is_second_apart, is_second_early, names_no_entry};
+ghost use Rattle.refutation.specs.LineRules.{number_owes_other, owes_other_data};
+ghost use Rattle.refutation.specs.Lines.{answer_in, answered, published_in};
+ghost use Rattle.refutation.specs.MayAnswer.{data_owed, has_fuse};
 ghost use Rattle.refutation_check.specs.Answers.{KnowsAnswers, answers_in};
 
 use crate::bytes::{cid_named, queue_of};

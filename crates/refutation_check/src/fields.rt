@@ -45,8 +45,8 @@ pub(crate) fn phase_of(cqe: &[u8; 16]) -> u16
     word_of(cqe) % 2
 }
 
-/// The status.
-pub(crate) fn status_of(cqe: &[u8; 16]) -> Status
+/// The status that a completion has.
+pub fn status_of(cqe: &[u8; 16]) -> Status
     ensures value { result ≡ cqe_status cqe.now }
 {
     let word = word_of(cqe);
@@ -54,7 +54,7 @@ pub(crate) fn status_of(cqe: &[u8; 16]) -> Status
 }
 
 /// Whether it is success.
-pub(crate) fn is_success(status: Status) -> bool
+pub fn is_success(status: Status) -> bool
     ensures value { result ≡ is_success status }
 {
     status.sct() == 0 && status.sc() == 0

@@ -2,8 +2,8 @@
 
 ghost use Rattle.std.specs.Prelude.{◌≡◌, List, suc, option_copied, reverse, slice_get};
 ghost use Rattle.trace.specs.declared.seen.Seen.{Seen};
-ghost use Rattle.refutation_laws.specs.Lines.{answer_in, published_in};
-ghost use Rattle.refutation_laws.specs.MayAnswer.{are_together};
+ghost use Rattle.refutation.specs.Lines.{answer_in, published_in};
+ghost use Rattle.refutation.specs.MayAnswer.{are_together};
 ghost use Rattle.refutation_check.specs.Answers.{KnowsAnswers, answers_in, are_at_one_line, entry_at, entry_place};
 ghost use Rattle.refutation_check.specs.Answers.{reaped_at};
 

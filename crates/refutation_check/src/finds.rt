@@ -3,8 +3,8 @@
 ghost use Rattle.std.specs.List.{filter};
 ghost use Rattle.std.specs.Prelude.{◌≡◌, ◌&&◌, ◌++◌, ◌∷◌, [], IfOk, OnOk, map, not};
 ghost use Rattle.nvme_model.specs.Operations.{op};
-ghost use Rattle.refutation_laws.specs.Slices.{answer_of, finds_of, looks, ticket_of};
-ghost use Rattle.refutation_laws.specs.Told.{says_differs};
+ghost use Rattle.refutation.specs.Slices.{answer_of, finds_of, looks, ticket_of};
+ghost use Rattle.refutation.specs.Told.{says_differs};
 ghost use Rattle.refutation_check.specs.Commands.{name_of};
 ghost use Rattle.refutation_check.specs.Known.{IsKnown, config_of, options_of, trace_of};
 ghost use Rattle.refutation_check.specs.SliceEffects.{found_of, is_left_inside, names_of};
@@ -17,7 +17,7 @@ use crate::held::add_held;
 use crate::known::{Chosen, Known};
 use crate::order::Effect;
 use crate::writers::{Asked, none_else};
-use slice_orders::HeldBlock;
+use refutation::HeldBlock;
 use std::alloc::{AllocError as NoMemory, Global};
 
 fn is_left_inside(

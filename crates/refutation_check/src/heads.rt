@@ -3,8 +3,8 @@
 ghost use Rattle.std.specs.Prelude.{◌≡◌, ◌<◌, ◌∷◌, IfOk, List, IfSome, length, max, option_copied, reverse, suc};
 ghost use Rattle.nvme_model.specs.EntryBytes.{cqe_fields};
 ghost use Rattle.trace.specs.declared.seen.Seen.{Seen};
-ghost use Rattle.refutation_laws.specs.LineRules.{count_to, has_wrong_head, least_fetched, next_at, next_whole};
-ghost use Rattle.refutation_laws.specs.Lines.{answered, published_in};
+ghost use Rattle.refutation.specs.LineRules.{count_to, has_wrong_head, least_fetched, next_at, next_whole};
+ghost use Rattle.refutation.specs.Lines.{answered, published_in};
 ghost use Rattle.refutation_check.specs.Answers.{KnowsAnswers, answers_in};
 
 use crate::bytes::queue_of;

@@ -2,7 +2,7 @@
 
 ghost use Rattle.std.specs.Prelude.{◌≡◌, ◌++◌, ◌∷◌, [], OnOk};
 
-use slice_orders::HeldBlock;
+use refutation::HeldBlock;
 use std::alloc::{AllocError as NoMemory, Global};
 
 /// Adds a block that holds these bytes.

@@ -1,6 +1,7 @@
 //! Checks what is said to refute a trace, for whoever gets it: by its last line, or by a slice of its effects.
 #![tactic(auto)]
 
+mod apart;
 mod block_data;
 mod blocks;
 mod bytes;
@@ -32,6 +33,7 @@ mod writes;
 
 pub use crate::bytes::{cid_named, cid_of, queue_of};
 pub use crate::commands::{op_of, units_of};
+pub use crate::fields::{is_success, status_of};
 pub use crate::known::{Chosen, Known};
 pub use crate::line::is_bad_read_line;
 pub use crate::order::Effect;

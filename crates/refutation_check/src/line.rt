@@ -2,12 +2,14 @@
 
 ghost use Rattle.std.specs.Prelude.{◌≡◌, ◌&&◌, ◌∷◌, ◌||◌, IfOk, not, reverse};
 ghost use Rattle.trace.specs.declared.seen.Seen.{Seen};
-ghost use Rattle.refutation_laws.specs.LineRules.{has_wrong_head, has_wrong_phase, names_no_entry, names_wrong_queue};
-ghost use Rattle.refutation_laws.specs.Lines.{is_tidy};
-ghost use Rattle.refutation_laws.specs.ReadRules.{breaks_read_rules, has_wrong_answer, is_bad_read_line};
-ghost use Rattle.refutation_laws.specs.ReadRules.{sets_read_bits};
+ghost use Rattle.refutation.specs.Apart.{is_apart, is_lacked};
+ghost use Rattle.refutation.specs.LineRules.{has_wrong_head, has_wrong_phase, names_no_entry, names_wrong_queue};
+ghost use Rattle.refutation.specs.Lines.{is_tidy};
+ghost use Rattle.refutation.specs.ReadRules.{breaks_read_rules, has_wrong_answer, is_bad_read_line};
+ghost use Rattle.refutation.specs.ReadRules.{sets_read_bits};
 ghost use Rattle.refutation_check.specs.Answers.{KnowsAnswers, answers_in};
 
+use crate::apart::{is_apart, is_lacked_publish, is_lacked_reap};
 use crate::completions::{has_wrong_phase, names_wrong_queue, sets_read_bits};
 use crate::entries::{has_early_second, has_wrong_data, has_wrong_second, names_no_entry};
 use crate::heads::has_wrong_head;
@@ -92,11 +94,14 @@ fn is_bad_by_itself(
     trace: &[Seen],
     line: &ReapedLine,
 ) -> bool
-    ensures value { result ≡ (sets_read_bits options.now line.now
-        || has_wrong_phase config.now (reverse trace.now) line.now || names_wrong_queue config.now line.now) }
+    ensures value { result ≡ (is_lacked options.now config.now (Seen.Reaped line.now)
+        || sets_read_bits options.now line.now
+        || (is_apart options.now config.now && has_wrong_phase config.now (reverse trace.now) line.now)
+        || names_wrong_queue config.now line.now) }
 {
-    sets_read_bits(options, line)
-        || has_wrong_phase(config, trace, line)
+    is_lacked_reap(options, config, line)
+        || sets_read_bits(options, line)
+        || (is_apart(options, config) && has_wrong_phase(config, trace, line))
         || names_wrong_queue(config, line)
 }
 
@@ -144,7 +149,9 @@ fn is_bad_behind(
         (λ bad. bad ≡ is_bad_read_line options.now config.now (line.now ∷ reverse trace.now)) }
 {
     match line {
-        Seen::Published(line) => Ok(has_wrong_batch(config, line)),
+        Seen::Published(line) => {
+            Ok(is_lacked_publish(options, config, line) || has_wrong_batch(config, line))
+        }
         Seen::Reaped(line) => is_bad_reap(alloc, options, config, trace, line),
     }
 }

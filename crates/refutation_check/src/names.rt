@@ -3,10 +3,10 @@
 ghost use Rattle.std.specs.List.{filter};
 ghost use Rattle.std.specs.Prelude.{◌≡◌, ◌++◌, IfOk, map};
 ghost use Rattle.nvme_model.specs.Operations.{op};
-ghost use Rattle.refutation_laws.specs.Lines.{answer_in};
-ghost use Rattle.refutation_laws.specs.Slices.{each_once, effects_of_command, is_named, is_piece, same_effect};
-ghost use Rattle.refutation_laws.specs.Slices.{slice_names};
-ghost use Rattle.refutation_laws.specs.Told.{told_ticket};
+ghost use Rattle.refutation.specs.Lines.{answer_in};
+ghost use Rattle.refutation.specs.Slices.{each_once, effects_of_command, is_named, is_piece, same_effect};
+ghost use Rattle.refutation.specs.Slices.{slice_names};
+ghost use Rattle.refutation.specs.Told.{told_ticket};
 ghost use Rattle.refutation_check.specs.Collected.{are_pieces};
 ghost use Rattle.refutation_check.specs.Commands.{name_of};
 ghost use Rattle.refutation_check.specs.Known.{IsKnown, config_of, trace_of};

@@ -2,12 +2,13 @@
 
 ghost use Rattle.std.specs.Prelude.{◌≡◌, IfOk, length};
 ghost use Rattle.nvme_model.specs.Config.{completion_queue};
-ghost use Rattle.refutation_laws.specs.EffectOrders.{comes_before, is_earlier_unit, last_entry};
-ghost use Rattle.refutation_laws.specs.Lines.{before_entry};
-ghost use Rattle.refutation_laws.specs.Places.{answer_place, is_among, place_before};
+ghost use Rattle.refutation.specs.EffectOrders.{comes_before, is_earlier_unit, last_entry};
+ghost use Rattle.refutation.specs.Lines.{before_entry};
+ghost use Rattle.refutation.specs.Places.{answer_place, is_among, place_before};
 ghost use Rattle.refutation_check.specs.Commands.{name_of};
 ghost use Rattle.refutation_check.specs.Known.{IsKnown, config_of, options_of, trace_of};
 
+use crate::apart::asks_heads;
 use crate::commands::op_of;
 use crate::completions::completion_queue;
 use crate::known::Known;
@@ -76,10 +77,10 @@ fn lines_told(known: &Known<'_>, queue: u16, effect: &Effect, published: usize) 
         (last_entry (trace_of known.now) effect.now.queue effect.now.number)) → result ≡ place_before
         (options_of known.now) (config_of known.now) (trace_of known.now) queue (name_of effect.now) }
 {
-    if known.options.ignored.sqhd {
-        published
-    } else {
+    if asks_heads(known.options) {
         place_of(known.heads, queue, effect, published)
+    } else {
+        published
     }
 }
 

@@ -1,8 +1,8 @@
 //! The pieces of a slice.
 
 ghost use Rattle.std.specs.Prelude.{◌≡◌, ◌++◌, ◌∷◌, [], IfOk, OnOk, if◌then◌else◌, map};
-ghost use Rattle.refutation_laws.specs.EffectOrders.{comes_before};
-ghost use Rattle.refutation_laws.specs.Slices.{numbers_where, piece_of, slice_of};
+ghost use Rattle.refutation.specs.EffectOrders.{comes_before};
+ghost use Rattle.refutation.specs.Slices.{numbers_where, piece_of, slice_of};
 ghost use Rattle.refutation_check.specs.Commands.{name_of};
 ghost use Rattle.refutation_check.specs.Known.{IsKnown, config_of, options_of, trace_of};
 ghost use Rattle.refutation_check.specs.SliceEffects.{names_of};
@@ -14,7 +14,7 @@ use crate::names::slice_names;
 use crate::order::{Effect, comes_before};
 use crate::told::is_sure;
 use crate::writes::writes_of;
-use slice_orders::Piece;
+use refutation::Piece;
 use std::alloc::{AllocError as NoMemory, Global};
 
 // Adds the number of an effect, where that comes before this one.

@@ -2,7 +2,7 @@
 
 ghost use Rattle.std.specs.Prelude.{◌≡◌};
 ghost use Rattle.nvme_model.specs.Refusals.{no_queue};
-ghost use Rattle.refutation_laws.specs.LineRules.{has_wrong_batch};
+ghost use Rattle.refutation.specs.LineRules.{has_wrong_batch};
 
 use history::Config;
 use nvme_model::entry::PublishLine;

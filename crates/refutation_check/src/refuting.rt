@@ -1,42 +1,40 @@
 //! Whether a trace is refuted.
 
-ghost use Rattle.std.specs.Prelude.{◌≡◌, ◌||◌, ◌<◌, ◌≤◌, IfOk, MatchOption, false, length, reverse, take, true};
-ghost use Rattle.nvme_model.specs.Array.{zeros};
+ghost use Rattle.std.specs.Prelude.{◌≡◌, ◌||◌, ◌<◌, ◌≤◌, IfOk, MatchOption, length, reverse, take, true};
 ghost use Rattle.nvme_model.specs.Config.{is_accepted};
 ghost use Rattle.nvme_model.specs.History.{Past};
 ghost use Rattle.trace.specs.Observed.{Explains};
-ghost use Rattle.slice_orders.specs.Layers.{has_no_order};
-ghost use Rattle.refutation_laws.specs.ReadRules.{is_bad_read_line};
-ghost use Rattle.refutation_laws.specs.Refuted.{is_refuted, lacks_order};
-ghost use Rattle.refutation_laws.specs.Slices.{slice_of};
+ghost use Rattle.refutation.specs.Layers.{has_no_order};
+ghost use Rattle.refutation.specs.Apart.{asks_heads, held_at_first};
+ghost use Rattle.refutation.specs.ReadRules.{is_bad_read_line};
+ghost use Rattle.refutation.specs.Refuted.{is_refuted, lacks_order};
+ghost use Rattle.refutation.specs.Slices.{slice_of};
 ghost use Rattle.refutation_check.specs.Answers.{KnowsAnswers, answers_in};
 ghost use Rattle.refutation_check.specs.Known.{IsKnown, config_of, options_of, trace_of};
 ghost use Rattle.refutation_check.specs.ToldHeads.{heads_in};
 
+use crate::apart::{asks_heads, held_at_first};
 use crate::known::Known;
 use crate::line::is_bad_read_line;
 use crate::pieces::slice_of;
 use crate::tables::TraceAnswers;
 use crate::told_heads::{ToldHead, heads_in};
 use history::Config;
-use refutation::Refutation;
-use slice_orders::has_no_order;
+use refutation::{Refutation, has_no_order};
 use std::alloc::{AllocError as NoMemory, Global};
 use trace::{Seen, TraceOptions};
 
-const ZEROS: [u8; 512] = [0; 512];
-
-// What the completions of a trace tell by SQHD, where that isn't ignored.
+// What the completions of a trace tell by SQHD, where that is asked.
 fn heads_told(
     alloc: Global,
     options: &TraceOptions,
     config: &Config,
     trace: &[Seen],
 ) -> Result<Vec<ToldHead>, NoMemory>
-    ensures value { options.now.ignored.sqhd ≡ false →
+    ensures value { asks_heads options.now ≡ true →
         IfOk result (λ heads. heads.items ≡ heads_in config.now (reverse trace.now)) }
 {
-    if options.ignored.sqhd {
+    if !asks_heads(options) {
         return Ok(Vec::new(alloc));
     }
     heads_in(alloc, config, trace)
@@ -48,12 +46,13 @@ fn slice_lacks_order(
     known: &Known<'_>,
     refutation: &Refutation,
 ) -> Result<bool, NoMemory>
-    ensures value { IsKnown known.now → IfOk result (λ none. none ≡ has_no_order zeros
+    ensures value { IsKnown known.now → IfOk result (λ none. none ≡ has_no_order
+        (held_at_first (options_of known.now))
         (slice_of (options_of known.now) (config_of known.now) (trace_of known.now)
         refutation.now.commands refutation.now.blocks)) }
 {
     let slice = slice_of(alloc, known, refutation.commands(), refutation.blocks())?;
-    has_no_order(alloc, &ZEROS, slice.as_slice())
+    has_no_order(alloc, held_at_first(known.options), slice.as_slice())
 }
 
 // The same by the tables of a trace.
@@ -66,7 +65,8 @@ fn lacks_order_by(
     refutation: &Refutation,
 ) -> Result<bool, NoMemory>
     ensures value { KnowsAnswers (reverse trace.now) (answers_in tables.now) →
-        IfOk result (λ none. none ≡ has_no_order zeros (slice_of options.now config.now (reverse trace.now)
+        IfOk result (λ none. none ≡ has_no_order (held_at_first options.now)
+        (slice_of options.now config.now (reverse trace.now)
         refutation.now.commands refutation.now.blocks)) }
 {
     let heads = heads_told(alloc, options, config, trace)?;
@@ -126,7 +126,7 @@ fn first_lines(trace: &[Seen], lines: u64) -> Option<&[Seen]>
     Some(&trace[..lines as usize])
 }
 
-// The same of the first so many lines, where they are there and it is known what blocks held.
+// The same of the first so many lines, where they are there.
 fn is_refuted(
     alloc: Global,
     options: &TraceOptions,
@@ -137,9 +137,6 @@ fn is_refuted(
     ensures value { IfOk result (λ refuted. refuted ≡ is_refuted options.now config.now (reverse trace.now)
         refutation.now.lines refutation.now.commands refutation.now.blocks) }
 {
-    if options.contents_unknown {
-        return Ok(false);
-    }
     match first_lines(trace, refutation.lines()) {
         Some(first) => refutes_lines(alloc, options, config, first, refutation),
         None => Ok(false),
@@ -158,7 +155,7 @@ fn accepted(config: &Config)
 /// # Errors
 ///
 /// `NoMemory` alone.
-#[tactic(auto, using(refutation_laws::proofs::Refuted::none_refuted))]
+#[tactic(auto, using(refutation::proofs::Refuted::none_refuted))]
 pub fn refute(
     alloc: Global,
     options: &TraceOptions,

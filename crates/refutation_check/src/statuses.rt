@@ -3,11 +3,11 @@
 ghost use Rattle.std.specs.Prelude.{◌≡◌, ◌&&◌, None, Some, option_copied, reverse, slice_get, suc};
 ghost use Rattle.nvme_model.specs.EntryBytes.{sqe_fields};
 ghost use Rattle.host_laws.specs.Calls.{cqe_status};
-ghost use Rattle.refutation_laws.specs.LineRules.{has_wrong_status, may_not_answer, number_may_not};
-ghost use Rattle.refutation_laws.specs.Lines.{published_in};
-ghost use Rattle.refutation_laws.specs.MayAnswer.{answers_first, answers_second, are_together, has_fuse, may_answer};
-ghost use Rattle.refutation_laws.specs.MayAnswer.{may_answer_behind, may_answer_first, may_answer_second, parts_pair};
-ghost use Rattle.refutation_laws.specs.MayAnswer.{verdict_at};
+ghost use Rattle.refutation.specs.LineRules.{has_wrong_status, may_not_answer, number_may_not};
+ghost use Rattle.refutation.specs.Lines.{published_in};
+ghost use Rattle.refutation.specs.MayAnswer.{answers_first, answers_second, are_together, has_fuse, may_answer};
+ghost use Rattle.refutation.specs.MayAnswer.{may_answer_behind, may_answer_first, may_answer_second, parts_pair};
+ghost use Rattle.refutation.specs.MayAnswer.{verdict_at};
 ghost use Rattle.refutation_check.specs.Answers.{KnowsAnswers, answers_in};
 
 use crate::bytes::queue_of;

@@ -1,7 +1,7 @@
 //! What a trace tells of its commands, by tables of its lines, the oldest first.
 
 ghost use Rattle.std.specs.Prelude.{◌≡◌, IfOk, option_copied, reverse};
-ghost use Rattle.refutation_laws.specs.Told.{is_sure, says_differs, says_done, told_units};
+ghost use Rattle.refutation.specs.Told.{is_sure, says_differs, says_done, told_units};
 ghost use Rattle.refutation_check.specs.Answers.{KnowsAnswers, answers_in};
 
 use crate::commands::units_of;

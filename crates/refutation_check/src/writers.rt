@@ -3,11 +3,11 @@
 ghost use Rattle.std.specs.List.{filter, flat_map, list_all, list_any, range_with_len};
 ghost use Rattle.std.specs.Prelude.{◌≡◌, ◌&&◌, ◌++◌, IfOk, Some, length, map, not, option_copied, slice_get};
 ghost use Rattle.nvme_model.specs.Operations.{has_write, op};
-ghost use Rattle.refutation_laws.specs.EffectOrders.{comes_before};
-ghost use Rattle.refutation_laws.specs.Lines.{answer_in, published_in};
-ghost use Rattle.refutation_laws.specs.Slices.{effects_of_command, may_write, none_else, says_failed};
-ghost use Rattle.refutation_laws.specs.Told.{told_ticket};
-ghost use Rattle.refutation_laws.specs.Writers.{none_by, writers_in};
+ghost use Rattle.refutation.specs.EffectOrders.{comes_before};
+ghost use Rattle.refutation.specs.Lines.{answer_in, published_in};
+ghost use Rattle.refutation.specs.Slices.{effects_of_command, may_write, none_else, says_failed};
+ghost use Rattle.refutation.specs.Told.{told_ticket};
+ghost use Rattle.refutation.specs.Writers.{none_by, writers_in};
 ghost use Rattle.refutation_check.specs.Collected.{has_blocks};
 ghost use Rattle.refutation_check.specs.Commands.{name_of};
 ghost use Rattle.refutation_check.specs.Fits.{fits};

@@ -2,8 +2,8 @@
 
 ghost use Rattle.std.specs.Prelude.{◌≡◌, ◌&&◌, IfOk, map, not};
 ghost use Rattle.nvme_model.specs.Operations.{has_write, op, write_data};
-ghost use Rattle.refutation_laws.specs.Slices.{answer_of, ticket_of, writes_of};
-ghost use Rattle.refutation_laws.specs.Told.{says_differs};
+ghost use Rattle.refutation.specs.Slices.{answer_of, ticket_of, writes_of};
+ghost use Rattle.refutation.specs.Told.{says_differs};
 ghost use Rattle.refutation_check.specs.Commands.{name_of};
 ghost use Rattle.refutation_check.specs.Known.{IsKnown, config_of, trace_of};
 
@@ -14,7 +14,7 @@ use crate::effects::{has_differed, op_at};
 use crate::held::add_held;
 use crate::known::{Chosen, Known};
 use crate::order::Effect;
-use slice_orders::HeldBlock;
+use refutation::HeldBlock;
 use std::alloc::{AllocError as NoMemory, Global};
 
 // What an effect writes on these blocks.

@@ -5,12 +5,12 @@ use crate::refuting::{
     FIRST_WRITE, FIRST_WRITTEN, FOUND_FIRST, FOUND_SECOND, FOUND_ZEROS, READ, READ_ALONE,
     SECOND_WRITE, SECOND_WRITTEN,
 };
-use crate::traces::{config, read_trace};
+use crate::traces::{config, history_config, read_trace};
 use refutation::write_refutation;
-use refutation_search::{find_bad_line, find_on_blocks, find_refutation};
 use std::alloc::Global;
 use std::test::Fail;
 use trace::TraceOptions;
+use trace_search::{find_bad_line, find_on_blocks, find_refutation};
 
 // The text of what is found to refute so many of these lines; no text where nothing is.
 fn found_read(
@@ -19,7 +19,7 @@ fn found_read(
     lines: &[&[u8]],
     count: usize,
 ) -> Result<Vec<u8>, Fail> {
-    let config = config()?;
+    let config = history_config(options)?;
     let trace = read_trace(alloc, lines)?;
     let mut text = Vec::new(alloc);
     if let Some(refutation) = find_refutation(alloc, options, &config, trace.as_slice(), count)? {
@@ -58,7 +58,9 @@ fn a_write_that_has_to_be_named(rt: HostRuntime) -> Result<(), Fail> {
     assert!(rt; found(alloc, &lines, 4)?.as_slice() == wanted);
     let mut options = TraceOptions::none();
     options.contents_unknown = true;
-    assert!(rt; found_read(alloc, &options, &lines, 4)?.is_empty());
+    assert!(rt; found_read(alloc, &options, &lines, 4)?.as_slice() == wanted);
+    let lines = [READ, FOUND_ZEROS];
+    assert!(rt; found_read(alloc, &options, &lines, 2)?.is_empty());
     Ok(())
 }
 
@@ -108,7 +110,10 @@ fn the_first_bad_line(rt: HostRuntime) -> Result<(), Fail> {
     let right = read_trace(alloc, &[FIRST_WRITE, FIRST_WRITTEN, READ, FOUND_ZEROS])?;
     assert!(rt; find_bad_line(alloc, &options, &config, right.as_slice())?.is_none());
     options.contents_unknown = true;
-    assert!(rt; find_bad_line(alloc, &options, &config, wrong.as_slice())?.is_none());
+    assert!(rt; find_bad_line(alloc, &options, &config, wrong.as_slice())?.is_some());
+    assert!(rt; find_bad_line(alloc, &options, &config, right.as_slice())?.is_some());
+    let config = history_config(&options)?;
+    assert!(rt; find_bad_line(alloc, &options, &config, right.as_slice())?.is_none());
     Ok(())
 }
 

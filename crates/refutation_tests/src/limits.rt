@@ -1,7 +1,7 @@
 //! Slices at limits: of no piece, of the greatest numbers, of data of any length, and of many states.
 
 use crate::pieces::{read, write};
-use slice_orders::{HeldBlock, Piece, has_no_order};
+use refutation::{HeldBlock, Piece, has_no_order};
 use std::alloc::{AllocError as NoMemory, Global};
 use std::test::Fail;
 

@@ -1,6 +1,7 @@
 //! Lines behind one Flush with CID 5 on submission queue 1, and behind none.
 
-use crate::traces::{config, read_trace};
+use crate::traces::{history_config, read_trace};
+use history::Config;
 use refutation_check::is_bad_read_line;
 use std::alloc::Global;
 use std::test::Fail;
@@ -11,6 +12,8 @@ pub(crate) const FLUSH: &[u8] =
 
 const NO_QUEUE: &[u8] =
     b"publish 4 00000500010000000000000000000000000000000000000000000000000000000000000000000000000000000000000000000000000000000000000000000000 -";
+
+const LACKED: &[u8] = b"reap 4 00000000000000000100040005000100 -";
 
 const RIGHT: &[u8] = b"reap 1 00000000000000000100010005000100 -";
 
@@ -40,7 +43,7 @@ const DATA: &[u8] = b"reap 1 00000000000000000100010005000100 A1";
 
 // Whether the last of these lines is bad, as options read it.
 fn is_bad_read(alloc: Global, options: &TraceOptions, lines: &[&[u8]]) -> Result<bool, Fail> {
-    let config = config()?;
+    let config = history_config(options)?;
     let trace = read_trace(alloc, lines)?;
     Ok(is_bad_read_line(alloc, options, &config, trace.as_slice())?)
 }
@@ -117,5 +120,46 @@ fn lines_where_do_not_retry_is_ignored(rt: HostRuntime) -> Result<(), Fail> {
     for line in [PHASE, BITS, FAULT_RETRY, HEAD_AHEAD] {
         assert!(rt; is_bad_read(alloc, &options, &[FLUSH, line])?);
     }
+    Ok(())
+}
+
+#[test]
+fn lines_where_contents_are_unknown(rt: HostRuntime) -> Result<(), Fail> {
+    let alloc = rt.alloc();
+    let mut options = TraceOptions::none();
+    options.contents_unknown = true;
+    assert!(rt; !is_bad_read(alloc, &options, &[FLUSH, RIGHT])?);
+    for line in [
+        PHASE,
+        QUEUE,
+        BITS,
+        CID,
+        HEAD_BEHIND,
+        HEAD_AHEAD,
+        STATUS,
+        FAULT,
+        DATA,
+    ] {
+        assert!(rt; is_bad_read(alloc, &options, &[FLUSH, line])?);
+    }
+    // (the fourth queue pair is the history's, and none of the trace's)
+    assert!(rt; is_bad_read(alloc, &options, &[NO_QUEUE])?);
+    assert!(rt; is_bad_read(alloc, &options, &[NO_QUEUE, LACKED])?);
+    Ok(())
+}
+
+#[test]
+fn lines_of_a_shared_completion_queue_where_contents_are_unknown(
+    rt: HostRuntime,
+) -> Result<(), Fail> {
+    let alloc = rt.alloc();
+    let mut options = TraceOptions::none();
+    let shared = Config::with_cqs(8, 1, 1, 0, 0, 4, 4, 4, 8, 1)?;
+    let trace = read_trace(alloc, &[FLUSH, PHASE])?;
+    assert!(rt; is_bad_read_line(alloc, &options, &shared, trace.as_slice())?);
+    options.contents_unknown = true;
+    assert!(rt; !is_bad_read_line(alloc, &options, &shared, trace.as_slice())?);
+    let trace = read_trace(alloc, &[FLUSH, BITS])?;
+    assert!(rt; is_bad_read_line(alloc, &options, &shared, trace.as_slice())?);
     Ok(())
 }

@@ -1,6 +1,6 @@
 //! Pieces for tests, each of one block with one byte.
 
-use slice_orders::{HeldBlock, HeldBlocks, Piece};
+use refutation::{HeldBlock, HeldBlocks, Piece};
 use std::alloc::{AllocError as NoMemory, Global};
 
 fn block(alloc: Global, number: u64, byte: u8) -> Result<HeldBlock, NoMemory> {

@@ -1,7 +1,7 @@
 //! Refutations of traces of Writes, Reads and Compares of block 3, as they are worked out by hand.
 
 use crate::lines::{FLUSH, HEAD_AHEAD, PHASE};
-use crate::traces::{config, read_trace};
+use crate::traces::{config, history_config, read_trace};
 use refutation::{Refutation, read_refutation};
 use refutation_check::refute;
 use std::alloc::Global;
@@ -79,7 +79,7 @@ fn is_refuted_read(
     lines: &[&[u8]],
     text: &[u8],
 ) -> Result<bool, Fail> {
-    let config = config()?;
+    let config = history_config(options)?;
     let trace = read_trace(alloc, lines)?;
     let Ok(refutation) = read_refutation(alloc, text) else {
         return Err(Fail::from("not read"));
@@ -265,10 +265,48 @@ fn contents_that_are_not_known(rt: HostRuntime) -> Result<(), Fail> {
     let mut options = TraceOptions::none();
     options.contents_unknown = true;
     let text = b"refutation\nlines 2\n".as_slice();
-    assert!(rt; !is_refuted_read(alloc, &options, &[FLUSH, PHASE], text)?);
+    assert!(rt; is_refuted_read(alloc, &options, &[FLUSH, PHASE], text)?);
+    // (what nobody wrote was there before)
     let lines = [READ, FOUND_FIRST];
     let text = b"refutation\nlines 2\nblock 3\ncommand 3 0\n".as_slice();
     assert!(rt; is_refuted(alloc, &lines, text)?);
+    assert!(rt; !is_refuted_read(alloc, &options, &lines, text)?);
+    // (SQHD tells no order of effects)
+    let lines = [READ_AND_WRITE, FOUND_EARLY];
+    let text = b"refutation\nlines 2\nblock 3\ncommand 1 0\n".as_slice();
+    assert!(rt; is_refuted(alloc, &lines, text)?);
+    assert!(rt; !is_refuted_read(alloc, &options, &lines, text)?);
+    Ok(())
+}
+
+#[test]
+fn slices_of_contents_that_are_not_known(rt: HostRuntime) -> Result<(), Fail> {
+    let alloc = rt.alloc();
+    let mut options = TraceOptions::none();
+    options.contents_unknown = true;
+    // (a Write covered what was there)
+    let lines = [FIRST_WRITE, FIRST_WRITTEN, READ, FOUND_ZEROS];
+    let text = b"refutation\nlines 4\nblock 3\ncommand 1 0\ncommand 3 0\n".as_slice();
+    assert!(rt; is_refuted_read(alloc, &options, &lines, text)?);
+    let text = b"refutation\nlines 4\nblock 3\ncommand 3 0\n".as_slice();
+    assert!(rt; !is_refuted_read(alloc, &options, &lines, text)?);
+    // (the first Read fixed what was there)
+    let lines = [READ, FOUND_FIRST, READ_AGAIN, FOUND_AGAIN];
+    let text = b"refutation\nlines 4\nblock 3\ncommand 3 0\ncommand 3 1\n".as_slice();
+    assert!(rt; is_refuted_read(alloc, &options, &lines, text)?);
+    let text = b"refutation\nlines 4\nblock 3\ncommand 3 1\n".as_slice();
+    assert!(rt; !is_refuted_read(alloc, &options, &lines, text)?);
+    // (a Write may have come between)
+    let lines = [
+        FIRST_WRITE,
+        FIRST_WRITTEN,
+        OTHER_WRITE,
+        READ,
+        FOUND_FIRST,
+        READ_AGAIN,
+        FOUND_AGAIN,
+    ];
+    let text = b"refutation\nlines 7\nblock 3\ncommand 2 0\ncommand 3 0\ncommand 3 1\n".as_slice();
     assert!(rt; !is_refuted_read(alloc, &options, &lines, text)?);
     Ok(())
 }

@@ -1,7 +1,7 @@
 //! Slices with and without an order, as they are worked out by hand.
 
 use crate::pieces::{failed, read, swap, write};
-use slice_orders::{Piece, has_no_order};
+use refutation::{Piece, has_no_order};
 use std::alloc::{AllocError as NoMemory, Global};
 use std::test::Fail;
 

@@ -1,16 +1,21 @@
-//! The program of docs/SLOTS.md: two hosts and one slot, on one thread with the server of their controller.
+//! The program of docs/SLOTS.md: two hosts and one slot; then a host that dies, and two that take its slot over.
 #![tactic(auto)]
 
 ghost use Rattle.std.specs.Prelude.{IfSome};
-ghost use Rattle.example_hosts.specs.Hosts.{IsLockHost};
+ghost use Rattle.slots_example.specs.Hosts.{IsLockHost};
 ghost use Rattle.shared_system.specs.Callers.{IsWorkerOf};
 ghost use Rattle.slot_alloc.specs.Claims.{IsHeldBy, IsReleasingOf};
 
+mod listening;
+mod making;
 mod polling;
+mod takeover;
+mod taking;
 
 use driver_cas::SharedPort;
-use example_hosts::{listens, next_host, next_server};
 use history::Config;
+use listening::listens;
+use making::{next_host, next_server};
 use polling::{held_by, polled, polled_release};
 use race_hosts::Host;
 use shared_system::{System, WorkerPasses, serve, system_of};
@@ -129,8 +134,8 @@ fn runs<R: AllocGlobal + Print + Wait>(rt: &R) -> Option<()> {
 }
 
 fn main(rt: HostRuntime) -> ExitCode {
-    match runs(&rt) {
-        Some(()) => ExitCode::SUCCESS,
-        None => ExitCode::FAILURE,
+    match (runs(&rt), takeover::runs(&rt)) {
+        (Some(()), Some(())) => ExitCode::SUCCESS,
+        (None, _) | (_, None) => ExitCode::FAILURE,
     }
 }

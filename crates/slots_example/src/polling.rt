@@ -1,7 +1,7 @@
 //! What has come of a claim or of a release.
 
 ghost use Rattle.std.specs.Prelude.{IfErr, IfSome};
-ghost use Rattle.example_hosts.specs.Hosts.{IsLockHost};
+ghost use Rattle.slots_example.specs.Hosts.{IsLockHost};
 ghost use Rattle.slot_alloc.specs.Claims.{IsClaimingOf, IsHeldBy, IsReleasingOf, IsUnreleased};
 ghost use Rattle.slot_alloc.specs.Progresses.{IsClaimingOn, IsHeldOn, IsUnreleasedOn};
 

@@ -1,1 +1,2 @@
 pub mod Observed
+pub mod Found

@@ -1,135 +1,16 @@
 //! What can be done next where nothing can be done at once.
 
+use crate::around::Around;
 use crate::comparing::add_compared;
-use crate::forced::{
-    FetchDue, fetching, finds_all, has_data, is_at_head, is_doubtful, line_fits, users,
-};
+use crate::forced::{FetchDue, fetching, finds_all, has_data, is_at_head, is_doubtful, line_fits};
+use crate::gates::{Wanted, queue_waiting};
 use entry_codec::Status;
 use nvme_model::array::Range;
 use std::alloc::AllocError as NoMemory;
 use trace_walk::{
-    Choice, Gives, Line, SoughtOp, SoughtTicket, TraceTables, Walk, fits, is_sure, number_at,
+    Choice, Gives, SoughtOp, SoughtTicket, TraceTables, Walk, fits, is_sure, number_at,
     wanted_completion,
 };
-
-/// What has to end before the next line, and the tickets that may have to do with it.
-#[derive(Drop)]
-pub(crate) struct Around {
-    /// The ticket whose completion is reaped next.
-    pub(crate) target: Option<usize>,
-    /// The tickets in flight, those that matter first.
-    pub(crate) tickets: Vec<usize>,
-    /// Whether nothing but units of these matters.
-    pub(crate) units_alone: bool,
-}
-
-/// The ticket whose completion is reaped next, where it is sure.
-pub(crate) fn target(walk: &Walk, tables: &TraceTables) -> Option<usize> {
-    let Some(Line::Reap(cq)) = walk.line(tables) else {
-        return None;
-    };
-    let (_, completion) = tables.wanted(cq, number_at(&walk.posted, cq))?;
-    let (head, sure) = is_at_head(walk, tables, &completion);
-    let (count, number) = users(walk, completion.queue, completion.cqe.cid);
-    if head && sure && count == 1 {
-        Some(number)
-    } else {
-        None
-    }
-}
-
-// Whether a ticket meets one of these, and one of the two writes.
-fn meets_any(walk: &Walk, ticket: &SoughtTicket, others: &[usize]) -> bool {
-    for number in others {
-        if let Some(other) = walk.tickets.get(*number) {
-            if ticket.meets(other) && (ticket.writes() || other.writes()) {
-                return true;
-            }
-        }
-    }
-    false
-}
-
-// Adds the tickets in flight that meet one of these.
-fn add_meeting(walk: &Walk, tickets: &mut Vec<usize>) -> Result<(), NoMemory> {
-    for _ in 0..walk.in_flight.len() {
-        let before = tickets.len();
-        for number in walk.in_flight.as_slice() {
-            let Some(ticket) = walk.ticket(*number) else {
-                continue;
-            };
-            if !tickets.contains(number) && meets_any(walk, &ticket, tickets) {
-                tickets.push(*number)?;
-            }
-        }
-        if tickets.len() == before {
-            return Ok(());
-        }
-    }
-    Ok(())
-}
-
-// Whether an entry that is published and not fetched may meet one of these tickets.
-fn more_may_meet(walk: &Walk, tables: &TraceTables, tickets: &[usize]) -> bool {
-    for queue in 0..walk.fetched.len() {
-        let first = number_at(&walk.fetched, queue);
-        for number in first..number_at(&walk.published, queue) {
-            let Some(entry) = tables.entry(queue, number) else {
-                continue;
-            };
-            let sqe = entry.item.sqe();
-            if !sqe.is_flush() && reaches(walk, sqe.slba(), sqe.blocks(), tickets) {
-                return true;
-            }
-        }
-    }
-    false
-}
-
-// Whether one of these tickets is still to reach one of these blocks.
-fn reaches(walk: &Walk, slba: u64, blocks: u32, tickets: &[usize]) -> bool {
-    let end = slba.saturating_add(u64::from(blocks));
-    for number in tickets {
-        if let Some(ticket) = walk.tickets.get(*number) {
-            let last = ticket.next.saturating_add(u64::from(ticket.left));
-            if ticket.has_unit() && ticket.next < end && slba < last {
-                return true;
-            }
-        }
-    }
-    false
-}
-
-/// What has to end before the next line, and what may have to do with it.
-pub(crate) fn look_around(
-    walk: &Walk,
-    tables: &TraceTables,
-    mut tickets: Vec<usize>,
-) -> Result<Around, NoMemory> {
-    tickets.clear();
-    let target = target(walk, tables);
-    if let Some(number) = target {
-        tickets.push(number)?;
-        add_meeting(walk, &mut tickets)?;
-        if !more_may_meet(walk, tables, &tickets) {
-            return Ok(Around {
-                target,
-                tickets,
-                units_alone: true,
-            });
-        }
-    }
-    for number in walk.in_flight.as_slice() {
-        if !tickets.contains(number) {
-            tickets.push(*number)?;
-        }
-    }
-    Ok(Around {
-        target,
-        tickets,
-        units_alone: false,
-    })
-}
 
 // Whether a unit may be made now, by what its ticket's completion says.
 fn may_make(
@@ -166,8 +47,8 @@ fn may_make(
     }
 }
 
-// The place of what a ticket writes to a block.
-fn place_written(walk: &Walk, ticket: &SoughtTicket, block: u64) -> usize {
+/// The place of what a ticket writes to a block.
+pub(crate) fn place_written(walk: &Walk, ticket: &SoughtTicket, block: u64) -> usize {
     match ticket.gives {
         Gives::Values(first) => first.saturating_add(ticket.behind(block)),
         Gives::Zeros | Gives::Nothing => usize::MAX,
@@ -250,6 +131,27 @@ pub(crate) fn goes_before(
     None
 }
 
+/// A submission queue in which an entry waits that has to write one of these blocks before a ticket does.
+pub(crate) fn waits_before(
+    walk: &Walk,
+    tables: &TraceTables,
+    number: usize,
+    range: &Range,
+) -> Option<usize> {
+    let ticket = walk.ticket(number)?;
+    for k in 0..range.blocks {
+        let block = range.slba.saturating_add(u64::from(k));
+        let need = tables.need(place_written(walk, &ticket, block));
+        if need.alone && need.until > 0 {
+            let queue = queue_waiting(walk, tables, block, Wanted::Before(need));
+            if queue.is_some() {
+                return queue;
+            }
+        }
+    }
+    None
+}
+
 // Whether no history can have this unit, which writes, now.
 fn is_hopeless(
     walk: &Walk,
@@ -262,16 +164,13 @@ fn is_hopeless(
         return true;
     };
     for k in 0..range.blocks {
-        if covers_too_soon(
-            walk,
-            tables,
-            &ticket,
-            range.slba.saturating_add(u64::from(k)),
-        ) {
+        let block = range.slba.saturating_add(u64::from(k));
+        if covers_too_soon(walk, tables, &ticket, block) {
             return true;
         }
     }
     goes_before(walk, tables, number, range, others).is_some()
+        || waits_before(walk, tables, number, range).is_some()
 }
 
 /// Whether the next unit of a ticket can be made now, as far as one sees.

@@ -1,16 +1,10 @@
 //! Which of the units that can be made next is most likely right.
 
-use crate::choosing::{Around, can_make, goes_before};
-use nvme_model::array::Range;
-use trace_walk::{Choice, Gives, SoughtTicket, TraceTables, Walk};
-
-// What a ticket writes to a block.
-fn value_given(walk: &Walk, tables: &TraceTables, ticket: &SoughtTicket, block: u64) -> u64 {
-    match ticket.gives {
-        Gives::Values(first) => tables.value(first.saturating_add(ticket.behind(block))),
-        Gives::Zeros | Gives::Nothing => 0,
-    }
-}
+use crate::around::Around;
+use crate::choosing::{can_make, goes_before, waits_before};
+use crate::gates::{Wanted, gate_ticket, queue_waiting};
+use crate::missing::{missing, value_given};
+use trace_walk::{Choice, TraceTables, Walk};
 
 // A ticket that is to write a block, this value or another one, first one that can be made now.
 fn who_writes(
@@ -44,35 +38,25 @@ fn who_writes(
     later
 }
 
-// The first of these blocks whose value isn't what a ticket is to find, and that value.
-fn missing(
-    walk: &Walk,
-    tables: &TraceTables,
-    ticket: &SoughtTicket,
-    range: &Range,
-) -> Option<(u64, u64)> {
-    let place = ticket.finds?;
-    let equal = walk.equal(tables, ticket, range);
-    if equal >= range.blocks {
-        return None;
-    }
-    let block = range.slba.saturating_add(u64::from(equal));
-    Some((
-        block,
-        tables.value(place.saturating_add(ticket.behind(block))),
-    ))
-}
-
 // The ticket that has to make a unit so that this one can, where it can't itself.
 fn helper(walk: &Walk, tables: &TraceTables, around: &Around, number: usize) -> Option<usize> {
     let ticket = walk.ticket(number)?;
     let range = walk.next_unit(tables, &ticket)?;
     if let Some((block, value)) = missing(walk, tables, &ticket, &range) {
-        let value = Some(value);
-        return who_writes(walk, tables, around, block, value, 0);
+        let here = who_writes(walk, tables, around, block, Some(value), 0);
+        if here.is_some() {
+            return here;
+        }
+        let queue = queue_waiting(walk, tables, block, Wanted::Value(value))?;
+        return gate_ticket(walk, tables, queue);
     }
     if ticket.writes() {
-        return goes_before(walk, tables, number, &range, &around.tickets);
+        let here = goes_before(walk, tables, number, &range, &around.tickets);
+        if here.is_some() {
+            return here;
+        }
+        let queue = waits_before(walk, tables, number, &range)?;
+        return gate_ticket(walk, tables, queue);
     }
     let value = walk.value(range.slba);
     who_writes(walk, tables, around, range.slba, None, value)

@@ -5,7 +5,11 @@
 #[cfg(test)]
 mod areas;
 #[cfg(test)]
+mod delayed;
+#[cfg(test)]
 mod options;
+#[cfg(test)]
+mod searches;
 #[cfg(test)]
 mod sessions;
 #[cfg(test)]

@@ -4,7 +4,7 @@ use history::{Config, Entry, parse_line};
 use std::alloc::Global;
 use std::test::Fail;
 use trace::{Seen, TraceOptions, parse_seen};
-use witness_check::{TraceVerdict, certify, judge};
+use witness_check::{TraceVerdict, certify, certify_delayed, judge, judge_delayed};
 
 /// The entries of these lines.
 pub(crate) fn entries_of(alloc: Global, lines: &[&[u8]]) -> Result<Vec<Entry>, Fail> {
@@ -52,4 +52,23 @@ pub(crate) fn verdict(
     let entries = entries_of(alloc, history)?;
     let trace = trace_of(alloc, trace)?;
     Ok(judge(alloc, &TraceOptions::none(), config, &trace, &entries)?)
+}
+
+/// The same, where lines were logged with delays.
+pub(crate) fn delayed_verdict(
+    alloc: Global,
+    config: &Config,
+    options: &TraceOptions,
+    history: &[&[u8]],
+    trace: &[&[u8]],
+) -> Result<TraceVerdict, Fail> {
+    let entries = entries_of(alloc, history)?;
+    let trace = trace_of(alloc, trace)?;
+    let verdict = judge_delayed(alloc, options, config, &trace, &entries)?;
+    if certify_delayed(alloc, options, config, &trace, &entries)?
+        != (verdict == TraceVerdict::Explained)
+    {
+        return Err(Fail::from("certified otherwise"));
+    }
+    Ok(verdict)
 }

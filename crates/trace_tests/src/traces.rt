@@ -41,13 +41,18 @@ pub(crate) fn trace_of(alloc: Global, lines: &[&[u8]]) -> Result<Vec<Seen>, Fail
 
 // What is said: the fewest first lines for which none was found, and why.
 #[derive(Clone, Copy, Debug, PartialEq, Eq)]
-enum Said {
+pub(crate) enum Said {
     Explained,
     NotFound(usize, Obstacle),
     GaveUp,
 }
 
-fn asked(alloc: Global, config: &Config, lines: &[&[u8]], steps: u64) -> Result<Said, Fail> {
+pub(crate) fn asked(
+    alloc: Global,
+    config: &Config,
+    lines: &[&[u8]],
+    steps: u64,
+) -> Result<Said, Fail> {
     let trace = trace_of(alloc, lines)?;
     match observe(alloc, &TraceOptions::none(), config, config, &trace, steps)? {
         Observed::Explained(_) => Ok(Said::Explained),

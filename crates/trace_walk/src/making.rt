@@ -249,9 +249,12 @@ impl Walk {
     pub(crate) fn put(&mut self, block: u64, value: u64, writer: usize) {
         let place = block.min(65_536) as usize;
         if let Some(known) = self.values.get_mut(place) {
-            self.sum = self.sum.wrapping_sub(mixed(block, *known));
-            self.sum = self.sum.wrapping_add(mixed(block, value));
+            let more = mixed(block, value).wrapping_sub(mixed(block, *known));
             *known = value;
+            self.sum = self.sum.wrapping_add(more);
+            if let Some(sum) = self.sums.get_mut(place % 64) {
+                *sum = sum.wrapping_add(more);
+            }
         }
         set_number(&mut self.writers, place, writer);
     }

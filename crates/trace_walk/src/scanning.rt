@@ -3,7 +3,7 @@
 use crate::matching::match_completions;
 use crate::tables::{Awaited, Line, NOBODYS, Published, TraceTables, Unfit};
 use crate::values::{add_values, empty_lists};
-use entry_codec::{Cqe, decode_cqe};
+use entry_codec::{Cqe, Status, decode_cqe};
 use fused_match::Item;
 use history::Config;
 use nvme_model::entry::PublishLine;
@@ -37,6 +37,7 @@ fn empty_tables(
         first,
         unfit: None,
         crowded: false,
+        tidy: false,
     })
 }
 
@@ -55,6 +56,7 @@ impl TraceTables {
                     item: Item::of(submission),
                     values,
                     answered: usize::MAX,
+                    succeeded: usize::MAX,
                     refused: false,
                     doubtful: false,
                     reused: false,
@@ -174,6 +176,29 @@ impl TraceTables {
         }
         false
     }
+
+    // Notes which entries succeeded.
+    fn note_successes(&mut self) {
+        for completion in self.completions.as_slice() {
+            if completion.sure && completion.cqe.status == Status::SUCCESS {
+                if let Some(entries) = self.entries.get_mut(completion.queue) {
+                    if let Some(entry) = entries.get_mut(completion.entry) {
+                        entry.succeeded = completion.line;
+                    }
+                }
+            }
+        }
+    }
+
+    // Whether it is sure what each completion is for, and nothing is open or short.
+    fn is_tidy(&self) -> bool {
+        for completion in self.completions.as_slice() {
+            if !completion.sure {
+                return false;
+            }
+        }
+        !self.crowded && !self.options.statuses_any && self.first.is_empty()
+    }
 }
 
 /// The tables of a trace that these options read, up to the first line that can't be so.
@@ -197,5 +222,7 @@ pub fn read_tables(
     }
     tables.crowded = tables.is_crowded();
     match_completions(alloc, &mut tables)?;
+    tables.note_successes();
+    tables.tidy = tables.is_tidy();
     Ok(tables)
 }

@@ -23,6 +23,8 @@ pub struct Published {
     pub values: usize,
     /// The line of the completion that seems to be its own.
     pub answered: usize,
+    /// The same, where that says success.
+    pub succeeded: usize,
     /// Whether it was refused, where any status will do: then its item is one of namespace 0.
     pub refused: bool,
     /// Whether it may have been, as far as the completions say.
@@ -130,6 +132,9 @@ pub struct TraceTables {
     pub unfit: Option<Unfit>,
     /// Whether there may be more tickets than may be in flight.
     pub crowded: bool,
+    /// Whether it is sure which entry each completion is for, that there are tickets enough, and what blocks held: then
+    /// blocks are apart that no command joins, and no order of completions.
+    pub tidy: bool,
 }
 
 impl TraceTables {

@@ -4,7 +4,6 @@ use crate::fitting::wanted_completion;
 use crate::numbers::{number_at, zeros};
 use crate::tables::{Line, OPEN, TraceTables};
 use crate::ticket::{SoughtOp, SoughtTicket};
-use crate::values::mixed;
 use entry_codec::Status;
 use nvme_model::array::Range;
 use std::alloc::{AllocError as NoMemory, Global};
@@ -69,8 +68,9 @@ pub struct Walk {
     // by block: its value, and the place of who wrote it
     pub(crate) values: Vec<u64>,
     pub(crate) writers: Vec<usize>,
-    // a number of all those values
+    // a number of all those values, and of those of each 64th block
     pub(crate) sum: u64,
+    pub(crate) sums: Vec<u64>,
     // by place: how many are still to find that value
     pub left: Vec<usize>,
     pub(crate) moves: Vec<Move>,
@@ -90,6 +90,14 @@ fn left_of(alloc: Global, tables: &TraceTables) -> Result<Vec<usize>, NoMemory> 
         left.push(need.finders)?;
     }
     Ok(left)
+}
+
+fn no_sums(alloc: Global) -> Result<Vec<u64>, NoMemory> {
+    let mut sums = Vec::new(alloc);
+    for _ in 0..64 {
+        sums.push(0)?;
+    }
+    Ok(sums)
 }
 
 // Whether the completion of a comparing ticket says Compare Failure.
@@ -126,6 +134,7 @@ impl Walk {
             values,
             writers,
             sum: 0,
+            sums: no_sums(alloc)?,
             left: left_of(alloc, tables)?,
             moves: Vec::new(alloc),
             covered: Vec::new(alloc),
@@ -210,41 +219,6 @@ impl Walk {
             return None;
         }
         tables.units.cut(ticket.next, ticket.left).next()
-    }
-
-    // A number of what blocks that are open didn't hold.
-    fn not_held(&self) -> u64 {
-        let mut all = 0u64;
-        if self.has_open {
-            for one in self.fixed.as_slice() {
-                if !one.held && self.value(one.block) == OPEN {
-                    all = all.wrapping_add(mixed(one.block, one.value));
-                }
-            }
-        }
-        all
-    }
-
-    /// A number that hardly any other place to go on from has.
-    pub fn state(&self) -> u64 {
-        let mut state = mixed(self.sum.wrapping_add(self.not_held()), self.at as u64);
-        for fetched in self.fetched.as_slice() {
-            state = mixed(state, *fetched as u64);
-        }
-        for posted in self.posted.as_slice() {
-            state = mixed(state, *posted as u64);
-        }
-        let mut all = 0u64;
-        for number in self.in_flight.as_slice() {
-            if let Some(ticket) = self.tickets.get(*number) {
-                let who = mixed(ticket.queue as u64, ticket.first as u64);
-                let far = mixed(ticket.unit, u64::from(ticket.posts));
-                let end = mixed(u64::from(ticket.taken), u64::from(ticket.differs));
-                let codes = mixed(u64::from(ticket.codes[0]), u64::from(ticket.codes[1]));
-                all = all.wrapping_add(mixed(mixed(who, far), mixed(end, codes)));
-            }
-        }
-        mixed(state, all)
     }
 
     /// Whether so many of these blocks can have the values that a ticket is to find, before one has another.

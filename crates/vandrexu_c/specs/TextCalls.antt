@@ -2,6 +2,7 @@
 use Rattle.std.specs.Prelude.{Bool, Err, List, Ok, Option, Result, Some, [], drop, false, length, true, ℕ, ◌++◌}
 use Rattle.std.specs.Prelude.{◌<◌, ◌≡◌, ◌≤◌}
 use Rattle.casdisk_texts.specs.Certified.{CertifiesText}
+use Rattle.casdisk_texts.specs.declared.logged.Logged.TheVariants.{AsSeen}
 use Rattle.casdisk_texts.specs.Files.{ChecksText}
 use Rattle.casdisk_texts.specs.Running.{RunsScript}
 use Rattle.casdisk_texts.specs.Said.{script_line}
@@ -110,7 +111,7 @@ ChecksInMemory history old new needed line result =
 abbrev pub CertifiesInMemory : (trace history old new : List ℕ) → (needed line result : ℕ) → Type 0
 CertifiesInMemory trace history old new needed line result =
     (r : Result Bool CertifyFault) × (left rest : Option (List ℕ)) × (text : List ℕ)
-    × CertifiesText r (Some trace) left (Some history) rest (Some []) (Some text)
+    × CertifiesText AsSeen r (Some trace) left (Some history) rest (Some []) (Some text)
     × GivesText (told_certify r) text old new needed line result
 
 -- Of this trace and this refutation in memory, what is said of them, and its line.

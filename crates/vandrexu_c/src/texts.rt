@@ -10,7 +10,7 @@ use crate::copying::fits;
 use crate::numbers::{BAD_LINE, NOT_LEGAL, TOO_SMALL};
 use bitflags::Flags;
 use c_handles::numbers::NO_MEMORY;
-use casdisk_texts::{CertifyFault, RunFault, certify_text, check_text, run_script};
+use casdisk_texts::{CertifyFault, Logged, RunFault, certify_text, check_text, run_script};
 use file_commands::{RefuteFault, TraceAnswer, observe_text, refute_text};
 use history::Kinds;
 use std::alloc::Global;
@@ -215,7 +215,7 @@ pub extern "C" fn vandrexu_certify_text(
     let mut seen = trace;
     let mut told = history;
     let mut text = Vec::new(alloc);
-    let done = certify_text(alloc, &mut seen, &mut told, &mut text);
+    let done = certify_text(alloc, Logged::AsSeen, &mut seen, &mut told, &mut text);
     give(told_certify(done), text.as_slice(), out, needed, line)
 }
 

@@ -1,6 +1,6 @@
 -- One more entry is compared with a trace.
-use Rattle.std.proofs.Common.{◌≡◌, ℕ, ◌+◌, ◌-◌, ◌<◌, ◌&&◌, Bool, true, false, cond, List, [], ◌∷◌, get_or}
-use Rattle.std.proofs.Common.{length, take, Option, Some, None, is_some, slice_get, refl, sym, ap, ◌∙◌, subst, arith}
+use Rattle.std.proofs.Common.{◌≡◌, ℕ, ◌+◌, ◌-◌, ◌<◌, ◌&&◌, Bool, true, false, cond, List, [], ◌∷◌, get_or, length}
+use Rattle.std.proofs.Common.{take, Option, Some, None, is_some, refl, sym, ap, ◌∙◌, subst, arith}
 use mathlib.Core.List.{reverse}
 use Rattle.std.proofs.lemmas.List.{reverse-append, reverse-reverse, take_more}
 use Rattle.nvme_model.specs.FirstBad.{earlier_or, first_bad_of}
@@ -13,7 +13,7 @@ use Rattle.trace.specs.Aside.{aside_pair}
 use Rattle.trace.specs.Observed.{observed, shown, with_shown}
 use Rattle.trace.specs.declared.options.TraceOptions.{TraceOptions}
 use Rattle.trace.specs.declared.seen.Seen.{Seen}
-use Rattle.witness_check.specs.Compared.{Compared, IsComparedTo, IsSeenTo, bad_after, next_after, out_after}
+use Rattle.witness_check.specs.Compared.{Compared, IsComparedTo, IsSeenTo, SaysNext, bad_after, next_after, out_after}
 use Rattle.witness_check.specs.Compared.{unlike_after}
 use Rattle.witness_check.specs.Followed.{Compares, Followed, FollowsHistory, TellsEntry}
 use Rattle.witness_check.specs.Turns.{is_aside_entry, out_with, turn_of}
@@ -97,11 +97,11 @@ told_seen o c past e next Same count none h = h.1
 told_seen o c past e next (Unlike d) count none h = h.1
 
 pub compared_next : (o : TraceOptions) (c : ConfigNumbers) (trace : List Seen) (past : Past) (e : Entry) (x : Compared)
-    (y : Followed) (told : Told) (turn : Turn) (count after more : ℕ) → count ≡ x.count + 1 → after ≡ x.next + 1
+    (y : Followed) (thing : Option Seen) (told : Told) (turn : Turn) (count after more : ℕ) → count ≡ x.count + 1
+    → after ≡ x.next + 1
     → more ≡ out_with e x.out → turn ≡ turn_of (is_aside_entry x.aside e) x.out x.next → is_some x.bad ≡ false
-    → IsComparedTo o c trace past x
-    → (FollowsHistory c past x.followed → TellsEntry x.options c past e (slice_get trace (x.next - 1)) told
-    × FollowsHistory c (e ∷ past) y)
+    → IsComparedTo o c trace past x → SaysNext trace x thing
+    → (FollowsHistory c past x.followed → TellsEntry x.options c past e thing told × FollowsHistory c (e ∷ past) y)
     → IsComparedTo o c trace (e ∷ past) (record {
       options = x.options;
       aside = x.aside;
@@ -112,11 +112,11 @@ pub compared_next : (o : TraceOptions) (c : ConfigNumbers) (trace : List Seen) (
       out = out_after told turn x.unlike x.out more;
       unlike = unlike_after told turn x.unlike;
     })
-compared_next o c trace past e x y told turn count after more one next outs whose none h take =
+compared_next o c trace past e x y thing told turn count after more one next outs whose none h says take =
     let no = none_of x.bad none in
     let said = take (h.follows no) in
-    let tells : TellsEntry o c past e (slice_get trace (x.next - 1)) told =
-    subst (λ (p : TraceOptions). TellsEntry p c past e (slice_get trace (x.next - 1)) told) h.reads said.0 in
+    let tells : TellsEntry o c past e thing told =
+    subst (λ (p : TraceOptions). TellsEntry p c past e thing told) h.reads said.0 in
     let place : None ≡ first_bad_of c past = sym no ∙ h.first in
     let a = aside_pair o c in
     let b = is_aside_entry a e in
@@ -125,16 +125,16 @@ compared_next o c trace past e x y told turn count after more one next outs whos
       reads = h.reads;
       apart = h.apart;
       counted = omega (arith, one, h.counted);
-      first = bad_next o c past e (slice_get trace (x.next - 1)) told count place (omega (arith, one, h.counted)) tells;
+      first = bad_next o c past e thing told count place (omega (arith, one, h.counted)) tells;
       follows = λ good. said.1;
       seen = λ good. subst (λ (t : Turn). IsSeenTo o a trace (with_shown (shown c past e) (observed c past))
           (next_after told t x.unlike x.next after) (out_after told t x.unlike x.out more) (unlike_after told t
           x.unlike))
           (sym at)
-          (seen_next o a trace (observed c past) x.next after x.out more (shown c past e) b told x.unlike next (h.seen
-          no)
+          (seen_next o a trace (observed c past) x.next after x.out more thing (shown c past e) b told x.unlike next
+          (says no) (h.seen no)
           (λ s is. let w = same_pair a c past e x.out s is in (w.0, outs ∙ w.1))
-          (told_seen o c past e (slice_get trace (x.next - 1)) told count good tells));
+          (told_seen o c past e thing told count good tells));
     }
 
 -- before any entry

@@ -8,7 +8,7 @@ use Rattle.trace.specs.declared.seen.Seen.{Seen}
 use Rattle.witness_check.specs.Differing.{Differ, PublishesDiffer, ReapsDiffer}
 use Rattle.witness_check.specs.declared.difference.Difference.{Difference}
 use Rattle.witness_check.specs.declared.difference.Difference.TheVariants.{Batch, Completion, Contents, Data}
-use Rattle.witness_check.specs.declared.difference.Difference.TheVariants.{HistoryEnds, Kind, Queue, TraceEnds}
+use Rattle.witness_check.specs.declared.difference.Difference.TheVariants.{HistoryEnds, Kind, Order, Queue, TraceEnds}
 
 -- ---- nothing differs from what it stands for
 
@@ -22,6 +22,7 @@ alike_publish o p t Kind e h = h
 alike_publish o p t Completion e h = h
 alike_publish o p t Data e h = h
 alike_publish o p t Contents e h = h
+alike_publish o p t Order e h = h
 
 alike_reap : (o : TraceOptions) (r t : ReapedLine) (d : Difference) → ReadsReap o r t → ReapsDiffer o r t d → ⊥
 alike_reap o r t Queue e h = h e.0
@@ -32,6 +33,7 @@ alike_reap o r t HistoryEnds e h = h
 alike_reap o r t Kind e h = h
 alike_reap o r t Batch e h = h
 alike_reap o r t Contents e h = h
+alike_reap o r t Order e h = h
 
 pub alike : (o : TraceOptions) (s t : Seen) (d : Difference) → ReadsAs o s t → Differ o (Some s) (Some t) d → ⊥
 alike o (Seen.Published p) (Seen.Published t) d e h = alike_publish o p t d e h
@@ -53,18 +55,21 @@ one_publish o p t Queue Kind h g = absurd g
 one_publish o p t Queue Completion h g = absurd g
 one_publish o p t Queue Data h g = absurd g
 one_publish o p t Queue Contents h g = absurd g
+one_publish o p t Queue Order h g = absurd g
 one_publish o p t Batch TraceEnds h g = absurd g
 one_publish o p t Batch HistoryEnds h g = absurd g
 one_publish o p t Batch Kind h g = absurd g
 one_publish o p t Batch Completion h g = absurd g
 one_publish o p t Batch Data h g = absurd g
 one_publish o p t Batch Contents h g = absurd g
+one_publish o p t Batch Order h g = absurd g
 one_publish o p t TraceEnds e h g = absurd h
 one_publish o p t HistoryEnds e h g = absurd h
 one_publish o p t Kind e h g = absurd h
 one_publish o p t Completion e h g = absurd h
 one_publish o p t Data e h g = absurd h
 one_publish o p t Contents e h g = absurd h
+one_publish o p t Order e h g = absurd h
 
 one_reap : (o : TraceOptions) (r t : ReapedLine) (d e : Difference) → ReapsDiffer o r t d → ReapsDiffer o r t e → d ≡ e
 one_reap o r t Queue Queue h g = refl
@@ -81,21 +86,25 @@ one_reap o r t Queue HistoryEnds h g = absurd g
 one_reap o r t Queue Kind h g = absurd g
 one_reap o r t Queue Batch h g = absurd g
 one_reap o r t Queue Contents h g = absurd g
+one_reap o r t Queue Order h g = absurd g
 one_reap o r t Completion TraceEnds h g = absurd g
 one_reap o r t Completion HistoryEnds h g = absurd g
 one_reap o r t Completion Kind h g = absurd g
 one_reap o r t Completion Batch h g = absurd g
 one_reap o r t Completion Contents h g = absurd g
+one_reap o r t Completion Order h g = absurd g
 one_reap o r t Data TraceEnds h g = absurd g
 one_reap o r t Data HistoryEnds h g = absurd g
 one_reap o r t Data Kind h g = absurd g
 one_reap o r t Data Batch h g = absurd g
 one_reap o r t Data Contents h g = absurd g
+one_reap o r t Data Order h g = absurd g
 one_reap o r t TraceEnds e h g = absurd h
 one_reap o r t HistoryEnds e h g = absurd h
 one_reap o r t Kind e h g = absurd h
 one_reap o r t Batch e h g = absurd h
 one_reap o r t Contents e h g = absurd h
+one_reap o r t Order e h g = absurd h
 
 pub one_difference : (o : TraceOptions) (s u : Option Seen) (d e : Difference) → Differ o s u d → Differ o s u e → d ≡ e
 one_difference o None None d e h g = absurd h

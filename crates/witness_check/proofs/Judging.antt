@@ -1,6 +1,6 @@
 -- What is said of a history and a trace.
-use Rattle.std.proofs.Common.{◌≡◌, ℕ, zero, suc, ◌+◌, ◌==◌, ◌<◌, ◌≤◌, ◌⊎◌, Bool, true, false, cond, List, [], ◌∷◌, ◌++◌}
-use Rattle.std.proofs.Common.{length, take, Option, Some, None, slice_get, refl, sym, ap, ◌∙◌, subst, arith, inl, inr}
+use Rattle.std.proofs.Common.{◌≡◌, ℕ, zero, suc, ◌+◌, ◌<◌, ◌≤◌, ◌⊎◌, true, false, cond, List, [], ◌∷◌, ◌++◌, length}
+use Rattle.std.proofs.Common.{take, Option, Some, None, slice_get, refl, sym, ap, ◌∙◌, subst, arith, inl, inr}
 use Rattle.std.proofs.Common.{length-append}
 use mathlib.Core.List.{reverse}
 use Rattle.std.proofs.lemmas.Bool.{and_parts}
@@ -10,7 +10,7 @@ use Rattle.nvme_model.specs.History.{Past}
 use Rattle.nvme_model.specs.Legal.{IsLegal, IsLegalFile}
 use Rattle.nvme_model.specs.declared.config.ConfigNumbers.{ConfigNumbers}
 use Rattle.nvme_model.proofs.FirstBad.{first_is_some, legal_is_none, one_first, some_is_first}
-use Rattle.trace.specs.Aside.{aside_pair, comes_first, in_turn, is_aside, own}
+use Rattle.trace.specs.Aside.{aside_pair, comes_first, in_turn, own}
 use Rattle.trace.specs.Observed.{Explains, observed}
 use Rattle.trace.specs.Options.{Pointwise, ReadsAs}
 use Rattle.trace.specs.declared.options.TraceOptions.{TraceOptions}
@@ -75,7 +75,7 @@ get_taken zero (suc m) (x ∷ xs) l = refl
 get_taken (suc n) (suc m) (x ∷ xs) l = get_taken n m xs (omega (arith, l))
 
 -- what stands behind a list
-at_end : (xs : List Seen) (x : Seen) (more : List Seen) (n : ℕ) → length xs ≡ n
+pub at_end : (xs : List Seen) (x : Seen) (more : List Seen) (n : ℕ) → length xs ≡ n
     → slice_get ((xs ++ x ∷ []) ++ more) n ≡ Some x
 at_end [] x more zero e = refl
 at_end [] x more (suc n) e = absurd (omega (arith, e))
@@ -83,7 +83,7 @@ at_end (y ∷ ys) x more zero e = absurd (omega (arith, e))
 at_end (y ∷ ys) x more (suc n) e = at_end ys x more n (omega (arith, e))
 
 -- one of two parts of a list lies within the other
-abbrev Parts : Seen → List Seen → Seen → List Seen → Type 0
+abbrev pub Parts : Seen → List Seen → Seen → List Seen → Type 0
 Parts s before t earlier =
     ((s ≡ t) × (before ≡ earlier))
     ⊎ (((more : List Seen) × (earlier ≡ more ++ (s ∷ before))) ⊎ ((more : List Seen) × (before ≡ more ++ (t ∷
@@ -92,7 +92,7 @@ Parts s before t earlier =
 head_same : (x y : Seen) (xs ys : List Seen) → x ∷ xs ≡ y ∷ ys → (x ≡ y) × (xs ≡ ys)
 head_same x y xs ys e = (cc, cc)
 
-two_parts : (later more before earlier : List Seen) (s t : Seen) → later ++ (s ∷ before) ≡ more ++ (t ∷ earlier)
+pub two_parts : (later more before earlier : List Seen) (s t : Seen) → later ++ (s ∷ before) ≡ more ++ (t ∷ earlier)
     → Parts s before t earlier
 two_parts [] [] before earlier s t e = inl (head_same s t before earlier e)
 two_parts [] (x ∷ more) before earlier s t e = inr (inr (more, (head_same s x before (more ++ (t ∷ earlier)) e).1))
@@ -105,7 +105,7 @@ two_parts (x ∷ later) (y ∷ more) before earlier s t e =
 
 module _ (o : TraceOptions) (a : Option ℕ) (trace : List Seen) where
   -- how many lines
-  stands_long : (seen : List Seen) (n : ℕ) → StandsFor o a seen trace n → length (own a seen) ≡ n
+  pub stands_long : (seen : List Seen) (n : ℕ) → StandsFor o a seen trace n → length (own a seen) ≡ n
   stands_long seen n h =
       same_length (ReadsAs o) (own a seen) (reverse (take n trace)) h.1.1 ∙ length-reverse (take n trace)
       ∙ length-take-le n trace h.0
@@ -121,7 +121,7 @@ module _ (o : TraceOptions) (a : Option ℕ) (trace : List Seen) where
       ∙ at_end (reverse vs) v (reverse ys) n (length-reverse vs ∙ long)
 
   -- nothing differs within what stands for a trace
-  never_there : (all later before : List Seen) (s : Seen) (n m : ℕ) (d : Difference) → all ≡ later ++ (s ∷ before)
+  pub never_there : (all later before : List Seen) (s : Seen) (n m : ℕ) (d : Difference) → all ≡ later ++ (s ∷ before)
       → StandsFor o a all trace m → StandsFor o a before trace n → DiffersBehind o a before s (slice_get trace n) d → ⊥
   never_there all later before s n m d is h g (inl late) =
       let first = first_before a later (s ∷ before) (subst (λ (xs : List Seen). comes_first a xs ≡ true) is h.1.0) in
@@ -176,7 +176,7 @@ module _ (o : TraceOptions) (a : Option ℕ) (trace : List Seen) where
 
 module _ (o : TraceOptions) (c : ConfigNumbers) (past : Past) (trace : List Seen) where
   -- a legal history has no first bad place
-  legal_or_bad : (k : ℕ) → IsLegal c past → IsFirstBad c (reverse past) k → ⊥
+  pub legal_or_bad : (k : ℕ) → IsLegal c past → IsFirstBad c (reverse past) k → ⊥
   legal_or_bad k l h =
       let file : IsLegalFile c (reverse past) = subst (IsLegal c) (sym (reverse-reverse past)) l in
       let f : Some k ≡ None = sym (first_is_some c (reverse past) k h) ∙ legal_is_none c (reverse past) file in

@@ -6,3 +6,11 @@ pub mod Comparing
 pub mod Differing
 pub mod Judging
 pub mod Growing
+pub mod Counting
+pub mod LateLines
+pub mod Placing
+pub mod Reaching
+pub mod Delaying
+pub mod Stepping
+pub mod Onward
+pub mod Settling

@@ -1,5 +1,5 @@
 -- What is kept of what was seen, after one thing more.
-use Rattle.std.proofs.Common.{◌≡◌, ℕ, zero, suc, ◌+◌, ◌-◌, ◌==◌, ◌<◌, ◌≤◌, ◌&&◌, Bool, true, false, cond, List, [], ◌∷◌}
+use Rattle.std.proofs.Common.{◌≡◌, ℕ, zero, suc, ◌+◌, ◌-◌, ◌==◌, ◌≤◌, ◌&&◌, Bool, true, false, cond, List, [], ◌∷◌}
 use Rattle.std.proofs.Common.{get_or, length, take, Option, Some, None, slice_get, refl, sym, ap, ◌∙◌, subst, arith}
 use Rattle.std.proofs.Common.{inl, inr, ne_eqb}
 use mathlib.Core.List.{reverse}
@@ -8,8 +8,7 @@ use Rattle.std.proofs.lemmas.List.{length-reverse, length-take-le, reverse-appen
 use Rattle.nvme_model.specs.History.{Past}
 use Rattle.nvme_model.specs.declared.config.ConfigNumbers.{ConfigNumbers}
 use Rattle.nvme_model.specs.declared.entry.Entry.{Entry}
-use Rattle.trace.specs.Aside.{in_turn, is_aside, none_seen, out_aside, own}
-use Rattle.trace.specs.Aside.{out_after as with_this}
+use Rattle.trace.specs.Aside.{in_turn, is_aside, none_seen, out_aside, own, out_after as with_this}
 use Rattle.trace.specs.Observed.{next_payload, shown, with_shown}
 use Rattle.trace.specs.Options.{Pointwise, ReadsAs}
 use Rattle.trace.specs.declared.options.TraceOptions.{TraceOptions}
@@ -26,7 +25,7 @@ use Rattle.witness_check.specs.declared.witness.Told.{Told}
 use Rattle.witness_check.specs.declared.witness.Told.TheVariants.{Bad, Hidden, Same, Unlike}
 
 -- one thing more of a list, from behind
-one_there : (xs : List Seen) (i : ℕ) (x : Seen) → slice_get xs i ≡ Some x
+pub one_there : (xs : List Seen) (i : ℕ) (x : Seen) → slice_get xs i ≡ Some x
     → reverse (take (i + 1) xs) ≡ x ∷ reverse (take i xs)
 one_there xs i x e =
     ap reverse (take_more xs i x (slice_get_within xs i x e))
@@ -188,32 +187,33 @@ told_unlike Aside d next after out more = (refl, refl)
 told_unlike Late d next after out more = (refl, refl)
 
 -- by what is told of it
-pub seen_next : (o : TraceOptions) (a : Option ℕ) (trace seen : List Seen) (next after out more : ℕ) (s : Option Seen)
-    (b : Bool) (told : Told) (u : Option Difference) → after ≡ next + 1 → IsSeenTo o a trace seen next out u
+pub seen_next : (o : TraceOptions) (a : Option ℕ) (trace seen : List Seen) (next after out more : ℕ)
+    (thing s : Option Seen) (b : Bool) (told : Told) (u : Option Difference) → after ≡ next + 1
+    → (u ≡ None → slice_get trace (next - 1) ≡ thing) → IsSeenTo o a trace seen next out u
     → ((x : Seen) → s ≡ Some x → (is_aside a x ≡ b) × (more ≡ with_this x out))
-    → Compares o s (slice_get trace (next - 1)) told
+    → Compares o s thing told
     → IsSeenTo o a trace (with_shown s seen) (next_after told (turn_of b out next) u next after)
     (out_after told (turn_of b out next) u out more) (unlike_after told (turn_of b out next) u)
-seen_next o a trace seen next after out more s b told (Some d) one h which is =
+seen_next o a trace seen next after out more thing s b told (Some d) one says h which is =
     stays_unlike o a trace seen next out out d s h
-seen_next o a trace seen next after out more s b Bad None one h which is = absurd is
-seen_next o a trace seen next after out more s b Hidden None one h which is =
+seen_next o a trace seen next after out more thing s b Bad None one says h which is = absurd is
+seen_next o a trace seen next after out more thing s b Hidden None one says h which is =
     subst (λ (x : Option Seen). IsSeenTo o a trace (with_shown x seen) next out None) (sym is) h
-seen_next o a trace seen next after out more s b Same None one h which is =
+seen_next o a trace seen next after out more thing s b Same None one says h which is =
     let w = which is.0 is.2 in
     let turn = turn_of b out next in
     let r = seen_one o a trace seen next after out more one h is.0 (λ _. w.1 ∙ ap (with_this is.0) h.2) b w.0 None
-    (is.1, is.3, is.4) in
+    (is.1, says refl ∙ is.3, is.4) in
     let t = told_same turn next after out more in
     subst (λ (x : Option Seen). IsSeenTo o a trace (with_shown x seen) (new_next Told.Same turn next after)
     (new_out Told.Same turn out more) (differs_at turn None)) (sym is.2)
     (subst (λ k. IsSeenTo o a trace (is.0 ∷ seen) k (new_out Told.Same turn out more) (differs_at turn None)) (sym t.0)
     (subst (λ k. IsSeenTo o a trace (is.0 ∷ seen) (next_at turn None next after) k (differs_at turn None)) (sym t.1) r))
-seen_next o a trace seen next after out more s b (Unlike d) None one h which is =
+seen_next o a trace seen next after out more thing s b (Unlike d) None one says h which is =
     let w = which is.0 is.1 in
     let turn = turn_of b out next in
     let r = seen_one o a trace seen next after out more one h is.0 (λ _. w.1 ∙ ap (with_this is.0) h.2) b w.0 (Some d)
-    is.2 in
+    (subst (λ (x : Option Seen). Differ o (Some is.0) x d) (sym (says refl)) is.2) in
     let t = told_unlike turn d next after out more in
     subst (λ (x : Option Seen). IsSeenTo o a trace (with_shown x seen) (new_next (Told.Unlike d) turn next after)
     (new_out (Told.Unlike d) turn out more) (differs_at turn (Some d))) (sym is.1)

@@ -1,5 +1,5 @@
 -- What is kept of a history that is compared with a trace up to where they differ, and what is said of them.
-use Rattle.std.specs.Prelude.{List, None, Option, Some, length, reverse, slice_get, ℕ, ◌+◌, ◌++◌, ◌≡◌, ◌∷◌}
+use Rattle.std.specs.Prelude.{List, None, Option, Some, length, reverse, slice_get, ℕ, ◌+◌, ◌++◌, ◌-◌, ◌≡◌, ◌∷◌}
 use Rattle.nvme_model.specs.FirstBad.{IsFirstBad, first_bad_of}
 use Rattle.nvme_model.specs.History.{Past}
 use Rattle.nvme_model.specs.Legal.{IsLegal}
@@ -59,6 +59,10 @@ pub record IsComparedTo (o : TraceOptions) (c : ConfigNumbers) (trace : List See
   pub first : x.bad ≡ first_bad_of c past
   pub follows : x.bad ≡ None → FollowsHistory c past x.followed
   pub seen : x.bad ≡ None → IsSeenTo o (aside_pair o c) trace (observed c past) x.next x.out x.unlike
+
+-- Where neither an entry is bad nor something differs, the trace says this next.
+abbrev pub SaysNext : List Seen → Compared → Option Seen → Type 0
+SaysNext trace x next = x.bad ≡ None → x.unlike ≡ None → slice_get trace (x.next - 1) ≡ next
 
 -- ---- one more entry, by what is told of it
 

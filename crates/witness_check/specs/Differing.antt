@@ -9,7 +9,7 @@ use Rattle.trace.specs.declared.seen.ReapedLine.{ReapedLine}
 use Rattle.trace.specs.declared.seen.Seen.{Seen}
 use Rattle.witness_check.specs.declared.difference.Difference.{Difference}
 use Rattle.witness_check.specs.declared.difference.Difference.TheVariants.{Batch, Completion, Contents, Data}
-use Rattle.witness_check.specs.declared.difference.Difference.TheVariants.{HistoryEnds, Kind, Queue, TraceEnds}
+use Rattle.witness_check.specs.declared.difference.Difference.TheVariants.{HistoryEnds, Kind, Order, Queue, TraceEnds}
 
 -- this is what differs first between two Publishes
 abbrev pub PublishesDiffer : TraceOptions → PublishLine → PublishLine → Difference → Type 0
@@ -21,6 +21,7 @@ PublishesDiffer o p t Kind = ⊥
 PublishesDiffer o p t Completion = ⊥
 PublishesDiffer o p t Data = ⊥
 PublishesDiffer o p t Contents = ⊥
+PublishesDiffer o p t Order = ⊥
 
 -- this is what differs first between two Reaps
 abbrev pub ReapsDiffer : TraceOptions → ReapedLine → ReapedLine → Difference → Type 0
@@ -33,6 +34,7 @@ ReapsDiffer o r t HistoryEnds = ⊥
 ReapsDiffer o r t Kind = ⊥
 ReapsDiffer o r t Batch = ⊥
 ReapsDiffer o r t Contents = ⊥
+ReapsDiffer o r t Order = ⊥
 
 -- this is what differs first between two things: their kinds, their queues, or what comes with them
 abbrev pub ThingsDiffer : TraceOptions → Seen → Seen → Difference → Type 0

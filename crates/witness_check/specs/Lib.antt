@@ -5,3 +5,6 @@ pub mod Turns
 pub mod Compared
 pub mod Seeing
 pub mod TraceText
+pub mod Delayed
+pub mod Lanes
+pub mod Delays

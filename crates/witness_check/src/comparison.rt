@@ -1,12 +1,12 @@
 //! A history that is compared with a trace up to where they differ.
 
 ghost use Rattle.std.specs.Option.{option_copied};
-ghost use Rattle.std.specs.Prelude.{◌≡◌, ◌∷◌, ◌-◌, [], IfOk, List, OnErr, OnOk, slice_get};
+ghost use Rattle.std.specs.Prelude.{◌≡◌, ◌∷◌, ◌-◌, [], IfOk, List, None, OnErr, OnOk, slice_get};
 ghost use Rattle.nvme_model.specs.History.{Past};
 ghost use Rattle.nvme_model.specs.declared.config.ConfigNumbers.{ConfigNumbers};
 ghost use Rattle.trace.specs.declared.options.TraceOptions.{TraceOptions};
 ghost use Rattle.trace.specs.declared.seen.Seen.{Seen};
-ghost use Rattle.witness_check.specs.Compared.{IsComparedTo, IsVerdict};
+ghost use Rattle.witness_check.specs.Compared.{IsComparedTo, IsVerdict, SaysNext};
 ghost use Rattle.witness_check.specs.Compared.{bad_after as the_bad_after, next_after as the_next_after};
 ghost use Rattle.witness_check.specs.Compared.{out_after as the_out_after, unlike_after as the_unlike_after};
 ghost use Rattle.witness_check.specs.Turns.{differs_at as the_differs_at};
@@ -154,6 +154,7 @@ impl Comparison {
     ) -> Result<Comparison, NoMemory>
         ensures begun { (trace : List Seen) → IfOk result
             (λ x. IsComparedTo options.now config.now trace [] x) }
+        ensures alike { IfOk result (λ x. (x.unlike ≡ None) × (x.next ≡ 1)) }
     {
         Ok(Comparison {
             options: *options,
@@ -177,6 +178,25 @@ impl Comparison {
             OnOk result (IsComparedTo o c trace.now (entry.now ∷ past) self.new) }
         ensures err { OnErr result (self.new ≡ self.old) }
     {
+        let thing = thing_of(trace, self.next);
+        self.take_beside(entry, thing)
+    }
+
+    /// Takes the next entry, where the trace says this next.
+    ///
+    /// # Errors
+    ///
+    /// `NoMemory` where a growth is refused; the entry isn't taken, and nothing has changed.
+    pub(crate) fn take_beside(
+        &mut self,
+        entry: &Entry,
+        thing: Option<&Seen>,
+    ) -> Result<(), NoMemory>
+        ensures ok { (o : TraceOptions) (c : ConfigNumbers) (past : Past) (trace : List Seen) →
+            IsComparedTo o c trace past self.old → SaysNext trace self.old (option_copied thing.entry) →
+            OnOk result (IsComparedTo o c trace (entry.now ∷ past) self.new) }
+        ensures err { OnErr result (self.new ≡ self.old) }
+    {
         let Some(count) = self.count.checked_add(1) else {
             return Err(NoMemory);
         };
@@ -191,7 +211,6 @@ impl Comparison {
             return Err(NoMemory);
         };
         let turn = turn_of(is_aside_entry(self.aside, entry), self.out, self.next);
-        let thing = thing_of(trace, self.next);
         let told = self.witness.take(&self.options, entry, thing)?;
         self.count = count;
         self.bad = bad_after(told, count);
@@ -199,6 +218,20 @@ impl Comparison {
         self.out = out_after(told, turn, self.unlike, self.out, more);
         self.unlike = unlike_after(told, turn, self.unlike);
         Ok(())
+    }
+
+    /// The place, from 1, of the first bad entry.
+    pub(crate) fn first_bad(&self) -> Option<u64>
+        ensures value { result ≡ self.now.bad }
+    {
+        self.bad
+    }
+
+    /// What differs where hosts first see something of the entries that the trace doesn't say next.
+    pub(crate) fn difference(&self) -> Option<Difference>
+        ensures value { result ≡ self.now.unlike }
+    {
+        self.unlike
     }
 
     /// What is said of the entries that were taken.

@@ -19,4 +19,6 @@ pub enum Difference {
     Data,
     /// What was there at the beginning wasn't written before it, or not to its end.
     Contents,
+    /// A Reap is logged before a Publish that came before it.
+    Order,
 }

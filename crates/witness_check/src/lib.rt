@@ -4,7 +4,10 @@
 
 mod certifying;
 mod comparison;
+mod delay_laws;
+mod delayed;
 mod difference;
+mod lanes;
 mod laws;
 mod observer;
 mod payloads;
@@ -17,6 +20,8 @@ mod witness;
 
 pub use crate::certifying::{certify, judge};
 pub use crate::comparison::{Comparison, TraceVerdict};
+pub use crate::delay_laws::delays_keep_a_publish_before_a_reap;
+pub use crate::delayed::{certify_delayed, judge_delayed};
 pub use crate::difference::Difference;
 pub use crate::laws::a_history_has_one_verdict;
 pub use crate::observer::Observer;

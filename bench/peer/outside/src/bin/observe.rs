@@ -29,8 +29,29 @@ const ONCE_WRONG: [(u64, bool); 8] = [
 
 static WITNESSES: AtomicU64 = AtomicU64::new(0);
 
-/// Traces that are refuted.
+/// Traces that are refuted, and those of them where that takes more lines than there is no history for.
 static REFUTED: AtomicU64 = AtomicU64::new(0);
+static REFUTED_LATER: AtomicU64 = AtomicU64::new(0);
+
+// The number of the line that an answer of this word names.
+fn line_told(output: &[u8], word: &str) -> Option<usize> {
+    let text = std::str::from_utf8(output).ok()?.strip_prefix(word)?.strip_prefix(": up to line ")?;
+    text.split_once(": ")?.0.parse().ok()
+}
+
+// Whether this is what may be said of a trace whose fewest first lines without a history are so many: the line at which
+// they end, or, where a refutation is found only of more lines, a later one.
+fn is_told(status: i32, output: &[u8], lines: usize) -> bool {
+    match status {
+        1 => line_told(output, "refuted").is_some_and(|told| {
+            REFUTED.fetch_add(1, Relaxed);
+            REFUTED_LATER.fetch_add(u64::from(told > lines), Relaxed);
+            told >= lines
+        }),
+        6 => line_told(output, "not found") == Some(lines),
+        _ => false,
+    }
+}
 
 // What is to be said; and the file of a witness, which is looked at now and then. Some traces have options.
 fn compare(program: &Program, seed: u64, has_head: bool) {
@@ -55,11 +76,7 @@ fn compare(program: &Program, seed: u64, has_head: bool) {
         Said::Not(lines) => {
             // (the first lines are the head)
             let head = 1 + trace.options.text().lines().count();
-            let front = format!("up to line {}: ", lines + head);
-            let word = if status == 1 { "refuted: " } else { "not found: " };
-            let is_told = output.starts_with(format!("{word}{front}").as_bytes());
-            REFUTED.fetch_add(u64::from(status == 1), Relaxed);
-            ((status == 1 || status == 6) && is_told && words.is_empty(), 1)
+            (is_told(status, &output, lines + head) && words.is_empty(), 1)
         }
         Said::Undecided => ((status <= 1 || status == 6) && words.is_empty(), 2),
     };
@@ -86,9 +103,12 @@ fn main() {
     }
     let [explained, not, undecided] = sums;
     assert!(undecided * 50 <= many, "the search that makes every step left too many undecided");
+    let refuted = REFUTED.load(Relaxed);
+    assert!(many < 5000 || (not - refuted) * 100 <= 6 * many, "too many traces are not found: {} of {many}", not - refuted);
     println!(
-        "{many} traces of up to {MOST_ENTRIES} entries, {} witnesses: both find {explained} explained and {not} not, {} of them refuted, and of {undecided} there was too much to try",
+        "{many} traces of up to {MOST_ENTRIES} entries, {} witnesses: both find {explained} explained and {not} not, {refuted} of them refuted ({} by a later line), {} of 100 traces not found, and of {undecided} there was too much to try",
         WITNESSES.load(Relaxed),
-        REFUTED.load(Relaxed)
+        REFUTED_LATER.load(Relaxed),
+        (not - refuted) * 100 / many,
     );
 }

@@ -17,8 +17,8 @@ returns-in_err-verdict g c =
     let told = c.in-Ok-read_history.told in
     rw (p.1, p.2) (record {
       certifies =
-          uncertified seen.options seen.config seen.history told.config seen.things.items told.entries.items
-          c.in_err-verdict.field-0.0 _ _ _ _ _
+          uncertified c.args.logged seen.options seen.config seen.history told.config seen.things.items
+          told.entries.items c.in_err-verdict.field-0.0 _ _ _ _ _
           c.in-Ok.ensures.whole.1 c.in-Ok-read_history.ensures.whole.1 c.in_err-verdict.ensures.failed;
     })
 
@@ -28,7 +28,7 @@ returns g c =
     let told = c.in-Ok-read_history.told in
     record {
       certifies =
-          certified seen.options seen.config seen.history told.config seen.things.items told.entries.items
+          certified c.args.logged seen.options seen.config seen.history told.config seen.things.items told.entries.items
           c.in_ok-verdict.verdict
           c.tell_verdict.result _ _ _ _ _ _ c.in-Ok.ensures.whole c.in-Ok-read_history.ensures.whole
           c.in_ok-verdict.ensures.whole c.tell_verdict.ensures.told;

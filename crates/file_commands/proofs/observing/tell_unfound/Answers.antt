@@ -1,6 +1,6 @@
 use Rattle.std.proofs.Common.{reverse, subst}
 use Rattle.std.specs.Prelude.{IfSome}
-use Rattle.refutation_search.specs.Found.{Refutes}
+use Rattle.trace_search.specs.Found.{Refutes}
 use Rattle.file_commands.proofs.observing.tell_unfound.Goals as goal
 
 pub returns-in-Ok-tell_reason : goal.returns-in-Ok-tell_reason

@@ -1,6 +1,6 @@
 use Rattle.std.proofs.Common.{take, ◌≡◌, ◌≤◌}
 use Rattle.std.specs.Prelude.{reverse}
-use Rattle.refutation_laws.specs.Lines.{reaped_in}
+use Rattle.refutation.specs.Lines.{reaped_in}
 use Rattle.refutation_check.proofs.completions.reaped_in.Given as goal
 
 abbrev pub invariant-loop-line : goal.invariant-loop-line

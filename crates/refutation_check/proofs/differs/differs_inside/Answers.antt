@@ -1,6 +1,6 @@
 use Rattle.std.proofs.Common.{Bool, IfOk, List, ap, bytes_eq, not, subst, sym, ℕ, ◌∙◌, ◌≡◌}
 use Rattle.nvme_model.specs.Verdict.{is_in}
-use Rattle.refutation_laws.specs.Slices.{none_else}
+use Rattle.refutation.specs.Slices.{none_else}
 use Rattle.refutation_check.specs.Commands.{name_of}
 use Rattle.refutation_check.specs.Known.{config_of, options_of, trace_of}
 use Rattle.refutation_check.specs.SliceEffects.{names_of}

@@ -3,9 +3,9 @@ use Rattle.std.specs.Prelude.{reverse}
 use Rattle.nvme_model.specs.declared.status.Status.{Status}
 use Rattle.host_laws.specs.Calls.{cqe_status}
 use Rattle.trace.specs.declared.seen.Seen.{Seen}
-use Rattle.refutation_laws.specs.LineRules.{is_apart_from, is_second_apart}
-use Rattle.refutation_laws.specs.Lines.{answer_in, published_in}
-use Rattle.refutation_laws.specs.MayAnswer.{has_fuse}
+use Rattle.refutation.specs.LineRules.{is_apart_from, is_second_apart}
+use Rattle.refutation.specs.Lines.{answer_in, published_in}
+use Rattle.refutation.specs.MayAnswer.{has_fuse}
 use Rattle.refutation_check.proofs.entries.is_second_apart.Goals as goal
 
 -- an entry and the one behind it

@@ -1,6 +1,6 @@
 use Rattle.std.proofs.Common.{IfOk, List, ap, map, subst, sym, ℕ, ◌∙◌, ◌≡◌}
 use Rattle.std.specs.List.{filter}
-use Rattle.slice_orders.specs.Pieces.{Held}
+use Rattle.refutation.specs.Pieces.{Held}
 use Rattle.refutation_check.specs.Commands.{name_of}
 use Rattle.refutation_check.specs.SliceEffects.{found_of, is_left_inside}
 use Rattle.refutation_check.proofs.SliceEffects.{where_true}

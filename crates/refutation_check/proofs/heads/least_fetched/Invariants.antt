@@ -1,6 +1,6 @@
 use Rattle.std.proofs.Common.{take, ◌≡◌}
 use Rattle.std.specs.Prelude.{reverse}
-use Rattle.refutation_laws.specs.LineRules.{least_fetched}
+use Rattle.refutation.specs.LineRules.{least_fetched}
 use Rattle.refutation_check.specs.Answers.{KnowsAnswers, answers_in}
 use Rattle.refutation_check.proofs.heads.least_fetched.Given as goal
 

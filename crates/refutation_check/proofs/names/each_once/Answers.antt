@@ -1,5 +1,5 @@
 use Rattle.std.proofs.Common.{List, ap, drop, false, map, sym, true, ◌++◌, ◌+◌, ◌∙◌}
-use Rattle.refutation_laws.specs.Slices.{each_once}
+use Rattle.refutation.specs.Slices.{each_once}
 use Rattle.refutation_check.specs.Commands.{name_of}
 use Rattle.refutation_check.specs.declared.order.Effect.{Effect}
 use Rattle.refutation_check.proofs.Named.{once_step}

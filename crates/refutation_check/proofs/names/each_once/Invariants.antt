@@ -1,5 +1,5 @@
 use Rattle.std.proofs.Common.{drop, map, ◌++◌, ◌≡◌}
-use Rattle.refutation_laws.specs.Slices.{each_once}
+use Rattle.refutation.specs.Slices.{each_once}
 use Rattle.refutation_check.specs.Commands.{name_of}
 use Rattle.refutation_check.proofs.names.each_once.Given as goal
 

@@ -1,5 +1,5 @@
 use Rattle.std.proofs.Common.{drop, map, ◌≡◌}
-use Rattle.refutation_laws.specs.Slices.{is_named}
+use Rattle.refutation.specs.Slices.{is_named}
 use Rattle.refutation_check.specs.Commands.{name_of}
 use Rattle.refutation_check.proofs.names.is_named.Given as goal
 

@@ -1,6 +1,6 @@
 use Rattle.std.proofs.Common.{List, None, ap, append-nil, false, map, reverse, sym, true, ◌++◌, ◌∙◌}
 use Rattle.nvme_model.specs.declared.array.Range.{Range}
-use Rattle.refutation_laws.specs.EffectOrders.{EffectName}
+use Rattle.refutation.specs.EffectOrders.{EffectName}
 use Rattle.refutation_check.specs.Collected.{effects_from}
 use Rattle.refutation_check.specs.Commands.{name_of}
 use Rattle.refutation_check.proofs.Named.{pieces_of}

@@ -1,6 +1,6 @@
 use Rattle.std.proofs.Common.{drop, filter, map, ◌++◌, ◌≡◌}
 use Rattle.std.specs.List.{flat_map}
-use Rattle.refutation_laws.specs.Slices.{effects_of_command, is_piece}
+use Rattle.refutation.specs.Slices.{effects_of_command, is_piece}
 use Rattle.refutation_check.specs.Commands.{name_of}
 use Rattle.refutation_check.specs.Known.{IsKnown, config_of, trace_of}
 use Rattle.refutation_check.proofs.names.slice_names.Given as goal

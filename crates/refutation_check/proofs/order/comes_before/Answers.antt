@@ -1,6 +1,6 @@
 use Rattle.std.proofs.Common.{false, refl, sym, true, ◌∙◌}
 use Rattle.std.proofs.lemmas.Result.{IfOk-weaker}
-use Rattle.refutation_laws.specs.Told.{is_sure}
+use Rattle.refutation.specs.Told.{is_sure}
 use Rattle.refutation_check.specs.Commands.{name_of}
 use Rattle.refutation_check.specs.Known.{config_of, options_of, trace_of}
 use Rattle.refutation_check.proofs.Orders.{by_tests}

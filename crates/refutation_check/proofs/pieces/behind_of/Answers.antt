@@ -1,7 +1,7 @@
 use Rattle.std.proofs.Common.{List, ap, arith, map, ◌∙◌}
 use Rattle.std.proofs.lemmas.List.{take_all}
-use Rattle.refutation_laws.specs.EffectOrders.{EffectName, comes_before}
-use Rattle.refutation_laws.specs.Slices.{numbers_where}
+use Rattle.refutation.specs.EffectOrders.{EffectName, comes_before}
+use Rattle.refutation.specs.Slices.{numbers_where}
 use Rattle.refutation_check.specs.Commands.{name_of}
 use Rattle.refutation_check.specs.Known.{config_of, options_of, trace_of}
 use Rattle.refutation_check.specs.declared.order.Effect.{Effect}

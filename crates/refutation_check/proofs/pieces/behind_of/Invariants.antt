@@ -1,6 +1,6 @@
 use Rattle.std.proofs.Common.{map, take, ◌≡◌}
-use Rattle.refutation_laws.specs.EffectOrders.{comes_before}
-use Rattle.refutation_laws.specs.Slices.{numbers_where}
+use Rattle.refutation.specs.EffectOrders.{comes_before}
+use Rattle.refutation.specs.Slices.{numbers_where}
 use Rattle.refutation_check.specs.Commands.{name_of}
 use Rattle.refutation_check.specs.Known.{IsKnown, config_of, options_of, trace_of}
 use Rattle.refutation_check.proofs.pieces.behind_of.Given as goal

@@ -1,5 +1,5 @@
 use Rattle.std.proofs.Common.{map, take, ◌≡◌}
-use Rattle.refutation_laws.specs.Slices.{piece_of}
+use Rattle.refutation.specs.Slices.{piece_of}
 use Rattle.refutation_check.specs.Commands.{name_of}
 use Rattle.refutation_check.specs.Known.{IsKnown, config_of, options_of, trace_of}
 use Rattle.refutation_check.specs.SliceEffects.{names_of}

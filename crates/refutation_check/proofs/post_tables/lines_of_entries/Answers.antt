@@ -1,6 +1,6 @@
 use Rattle.std.proofs.Common.{None, Some, ap, arith, length, reverse, suc, sym, ℕ, ◌+◌, ◌-◌, ◌∙◌, ◌≡◌}
 use Rattle.std.proofs.lemmas.List.{length-reverse}
-use Rattle.refutation_laws.specs.EffectOrders.{through_entries}
+use Rattle.refutation.specs.EffectOrders.{through_entries}
 use Rattle.refutation_check.proofs.Places.{within}
 use Rattle.refutation_check.proofs.PostPlaces.{no_entry, through_entry}
 use Rattle.refutation_check.proofs.post_tables.lines_of_entries.Goals as goal

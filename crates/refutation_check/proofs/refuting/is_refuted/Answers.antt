@@ -8,6 +8,6 @@ returns-in-Some c =
     record {
       value = subst (λ b. IfOk c.refutes_lines.result (λ refuted. refuted ≡ b))
           (refuted_by_first c.args.options.now c.args.config.now c.args.trace.now c.in-Some.first.now c.lines.result
-          c.args.refutation.now c.if-options.false c.in-Some.ensures.value c.lines.ensures)
+          c.args.refutation.now c.in-Some.ensures.value c.lines.ensures)
           c.refutes_lines.ensures.value;
     }

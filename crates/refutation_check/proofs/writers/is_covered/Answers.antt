@@ -1,5 +1,5 @@
 use Rattle.std.proofs.Common.{reverse, sym, ◌∙◌}
-use Rattle.refutation_laws.specs.EffectOrders.{comes_before}
+use Rattle.refutation.specs.EffectOrders.{comes_before}
 use Rattle.refutation_check.specs.Commands.{name_of}
 use Rattle.refutation_check.proofs.Leavers.{last_fails, last_passes}
 use Rattle.refutation_check.proofs.writers.is_covered.Goals as goal

@@ -1,6 +1,6 @@
 use Rattle.std.proofs.Common.{length, map, ◌≡◌}
 use Rattle.std.specs.List.{list_any}
-use Rattle.refutation_laws.specs.EffectOrders.{comes_before}
+use Rattle.refutation.specs.EffectOrders.{comes_before}
 use Rattle.refutation_check.specs.Commands.{name_of}
 use Rattle.refutation_check.specs.Known.{IsKnown, config_of, options_of, trace_of}
 use Rattle.refutation_check.proofs.writers.is_covered.Given as goal

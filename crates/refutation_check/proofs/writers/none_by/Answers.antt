@@ -2,8 +2,8 @@ use Rattle.std.proofs.Common.{Bool, ap, length, map, reverse, sym, ◌∙◌, �
 use Rattle.std.proofs.lemmas.Bool.{eqb-true}
 use Rattle.std.proofs.lemmas.Result.{IfOk-weaker}
 use Rattle.std.specs.List.{list_all, list_any}
-use Rattle.refutation_laws.specs.EffectOrders.{EffectName, comes_before}
-use Rattle.refutation_laws.specs.Writers.{none_by}
+use Rattle.refutation.specs.EffectOrders.{EffectName, comes_before}
+use Rattle.refutation.specs.Writers.{none_by}
 use Rattle.refutation_check.specs.Commands.{name_of}
 use Rattle.refutation_check.specs.Fits.{fits}
 use Rattle.refutation_check.proofs.Leavers.{none_found, none_left}

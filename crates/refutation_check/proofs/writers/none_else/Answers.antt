@@ -1,7 +1,7 @@
 use Rattle.std.proofs.Common.{Bool, ap, map, reverse, ◌∙◌, ◌≡◌}
 use Rattle.std.proofs.lemmas.Result.{IfOk-weaker}
-use Rattle.refutation_laws.specs.Slices.{none_else}
-use Rattle.refutation_laws.specs.Writers.{none_by}
+use Rattle.refutation.specs.Slices.{none_else}
+use Rattle.refutation.specs.Writers.{none_by}
 use Rattle.refutation_check.specs.Commands.{name_of}
 use Rattle.refutation_check.specs.Fits.{fits}
 use Rattle.refutation_check.proofs.Leavers.{none_of_all}

@@ -1,6 +1,6 @@
 use Rattle.std.proofs.Common.{List, Some, ap, append-nil, map, reverse, sym, ◌++◌, ◌∙◌}
 use Rattle.nvme_model.specs.declared.array.Range.{Range}
-use Rattle.refutation_laws.specs.EffectOrders.{EffectName}
+use Rattle.refutation.specs.EffectOrders.{EffectName}
 use Rattle.refutation_check.specs.Collected.{effects_from}
 use Rattle.refutation_check.specs.Commands.{name_of}
 use Rattle.refutation_check.proofs.Kept.{none_write, some_write}

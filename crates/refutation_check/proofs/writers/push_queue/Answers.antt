@@ -1,6 +1,6 @@
 use Rattle.std.proofs.Common.{ap, filter, map, reverse, ℕ, ◌++◌, ◌∙◌}
 use Rattle.std.specs.List.{flat_map, range_with_len}
-use Rattle.refutation_laws.specs.Slices.{effects_of_command, may_write}
+use Rattle.refutation.specs.Slices.{effects_of_command, may_write}
 use Rattle.refutation_check.specs.Commands.{name_of}
 use Rattle.refutation_check.proofs.Kept.{numbers_end, numbers_step}
 use Rattle.refutation_check.proofs.writers.push_queue.Goals as goal

@@ -2,9 +2,9 @@ use Rattle.std.proofs.Common.{List, ap, arith, filter, length, map, reverse, ℕ
 use Rattle.std.specs.List.{flat_map, range_with_len}
 use Rattle.nvme_model.specs.declared.config.ConfigNumbers.{ConfigNumbers}
 use Rattle.trace.specs.declared.seen.Seen.{Seen}
-use Rattle.refutation_laws.specs.EffectOrders.{EffectName}
-use Rattle.refutation_laws.specs.Lines.{published_in}
-use Rattle.refutation_laws.specs.Slices.{effects_of_command, may_write}
+use Rattle.refutation.specs.EffectOrders.{EffectName}
+use Rattle.refutation.specs.Lines.{published_in}
+use Rattle.refutation.specs.Slices.{effects_of_command, may_write}
 use Rattle.refutation_check.specs.Commands.{name_of}
 use Rattle.refutation_check.specs.declared.order.Effect.{Effect}
 use Rattle.refutation_check.proofs.Kept.{numbers_end, numbers_step}

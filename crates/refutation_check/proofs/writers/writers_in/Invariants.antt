@@ -1,8 +1,8 @@
 use Rattle.std.proofs.Common.{filter, length, map, ◌+◌, ◌++◌, ◌-◌, ◌≡◌}
 use Rattle.std.specs.List.{flat_map, range_with_len}
-use Rattle.refutation_laws.specs.Lines.{published_in}
-use Rattle.refutation_laws.specs.Slices.{effects_of_command, may_write}
-use Rattle.refutation_laws.specs.Writers.{writers_in}
+use Rattle.refutation.specs.Lines.{published_in}
+use Rattle.refutation.specs.Slices.{effects_of_command, may_write}
+use Rattle.refutation.specs.Writers.{writers_in}
 use Rattle.refutation_check.specs.Commands.{name_of}
 use Rattle.refutation_check.specs.Known.{IsKnown, config_of, trace_of}
 use Rattle.refutation_check.proofs.writers.writers_in.Given as goal

@@ -1,7 +1,7 @@
 use Rattle.std.proofs.Common.{IfOk, List, ap, map, subst, sym, ℕ, ◌∙◌, ◌≡◌}
 use Rattle.nvme_model.specs.Operations.{write_data}
-use Rattle.slice_orders.specs.Pieces.{Held}
-use Rattle.refutation_laws.specs.Slices.{ticket_of}
+use Rattle.refutation.specs.Pieces.{Held}
+use Rattle.refutation.specs.Slices.{ticket_of}
 use Rattle.refutation_check.specs.Commands.{name_of}
 use Rattle.refutation_check.specs.Known.{trace_of}
 use Rattle.refutation_check.proofs.SliceEffects.{where_true}

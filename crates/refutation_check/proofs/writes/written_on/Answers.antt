@@ -1,7 +1,7 @@
 use Rattle.std.proofs.Common.{List, ap, arith, map, ℕ, ◌∙◌}
 use Rattle.std.proofs.lemmas.List.{take_all}
 use Rattle.nvme_model.specs.Operations.{write_data}
-use Rattle.refutation_laws.specs.Slices.{ticket_of}
+use Rattle.refutation.specs.Slices.{ticket_of}
 use Rattle.refutation_check.specs.Commands.{name_of}
 use Rattle.refutation_check.specs.Known.{trace_of}
 use Rattle.refutation_check.proofs.writes.written_on.Goals as goal

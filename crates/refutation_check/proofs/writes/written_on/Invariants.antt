@@ -1,6 +1,6 @@
 use Rattle.std.proofs.Common.{map, take, ◌≡◌}
 use Rattle.nvme_model.specs.Operations.{write_data}
-use Rattle.refutation_laws.specs.Slices.{ticket_of}
+use Rattle.refutation.specs.Slices.{ticket_of}
 use Rattle.refutation_check.specs.Commands.{name_of}
 use Rattle.refutation_check.specs.Known.{IsKnown, trace_of}
 use Rattle.refutation_check.proofs.writes.written_on.Given as goal

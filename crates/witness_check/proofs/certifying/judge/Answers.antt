@@ -6,6 +6,9 @@ use Rattle.witness_check.specs.Compared.{IsComparedTo, IsVerdict}
 use Rattle.witness_check.proofs.Comparing.{more_of}
 use Rattle.witness_check.proofs.certifying.judge.Goals as goal
 
+pub loop-place-init : goal.loop-place-init
+loop-place-init c = c.in_ok-comparison.ensures.begun c.args.trace.now
+
 pub loop-place-preserved : goal.loop-place-preserved
 loop-place-preserved c =
     subst (λ (p : Past). IsComparedTo c.args.options.now c.args.config.now c.args.trace.now p c.take.new.self)

@@ -1,5 +1,5 @@
 use Rattle.std.proofs.Common.{None, Some, ap, length, reverse, sym, ℕ, ◌-◌, ◌∙◌}
-use Rattle.refutation_laws.specs.EffectOrders.{through_reaps}
+use Rattle.refutation.specs.EffectOrders.{through_reaps}
 use Rattle.refutation_check.proofs.PostPlaces.{no_reap, through_reap}
 use Rattle.refutation_check.proofs.post_tables.PostTables.lines_of_reaps.Goals as goal
 

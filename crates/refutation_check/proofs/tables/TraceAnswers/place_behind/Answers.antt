@@ -1,6 +1,6 @@
 use Rattle.std.proofs.Common.{ap, arith, length, suc, sym, ℕ, ◌+◌, ◌<◌, ◌≤◌, ◌∙◌, ◌≡◌}
 use Rattle.std.proofs.lemmas.Bool.{le-leb}
-use Rattle.refutation_laws.specs.Lines.{published_in}
+use Rattle.refutation.specs.Lines.{published_in}
 use Rattle.refutation_check.specs.Answers.{entry_place}
 use Rattle.refutation_check.proofs.Together.{none_is, none_of}
 use Rattle.refutation_check.proofs.tables.TraceAnswers.place_behind.Goals as goal

@@ -1,6 +1,0 @@
-use Rattle.refutation.proofs.TextAgain.{read_back}
-use Rattle.refutation.proofs.TextRead.{written_back}
-use Rattle.refutation.proofs.laws.refutations_have_one_spelling.Goals as goal
-
-pub returns : goal.returns
-returns c = record { read_back = read_back; written_back = written_back }

@@ -1,0 +1,10 @@
+use Rattle.nvme_model.specs.EntryBytes.{cqe_fields}
+use Rattle.refutation.proofs.LastLine.{explained_reap}
+use Rattle.refutation.proofs.Answering.{data_right}
+use Rattle.refutation.proofs.Lines.{tidy_each}
+use Rattle.refutation.proofs.line_laws.no_completion_has_wrong_data.Goals as goal
+
+pub returns : goal.returns
+returns c =
+    λ n past r trace a h. data_right n r trace (tidy_each (cqe_fields r.cqe).sqid trace a)
+    (explained_reap n past r trace h)

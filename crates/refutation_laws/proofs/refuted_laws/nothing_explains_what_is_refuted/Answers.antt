@@ -1,5 +1,0 @@
-use Rattle.refutation_laws.proofs.Refuted.{none_refuted}
-use Rattle.refutation_laws.proofs.refuted_laws.nothing_explains_what_is_refuted.Goals as goal
-
-pub returns : goal.returns
-returns c = none_refuted

@@ -1,9 +1,0 @@
-pub mod Members
-pub mod SameState
-pub mod Reached
-pub mod Steps
-pub mod Loops
-pub mod Short
-pub mod Found
-pub mod Building
-pub mod ExampleOrders

@@ -1,7 +1,0 @@
-use Rattle.std.proofs.Common.{drop, ◌≡◌}
-use Rattle.slice_orders.specs.Orders.{held_by}
-use Rattle.slice_orders.proofs.following.held_by.Given as goal
-
-abbrev pub invariant-loop-number : goal.invariant-loop-number
-invariant-loop-number l =
-    held_by l.blank l.slice l.order l.block ≡ held_by l.blank l.slice (drop l.number-index l.order) l.block

@@ -1,7 +1,0 @@
-use Rattle.std.proofs.Common.{List, drop, ℕ, ◌≡◌}
-use Rattle.slice_orders.specs.Orders.{written}
-use Rattle.slice_orders.proofs.following.written.Given as goal
-
-abbrev pub invariant-loop-held : goal.invariant-loop-held
-invariant-loop-held l =
-    (before : List ℕ) → written l.blocks l.block before ≡ written (drop l.held-index l.blocks) l.block before

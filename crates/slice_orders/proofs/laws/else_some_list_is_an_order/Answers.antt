@@ -1,5 +1,0 @@
-use Rattle.slice_orders.proofs.Found.{order_found}
-use Rattle.slice_orders.proofs.laws.else_some_list_is_an_order.Goals as goal
-
-pub returns : goal.returns
-returns c = order_found
