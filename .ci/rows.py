@@ -20,6 +20,14 @@ AROUND = {"run": [([CONFIG], [])], "tell": [([CONFIG], [])], "check": [([CONFIG]
 # Each opcode, and each bit of an entry: a byte's place, and its value or a mask.
 CHANGES = {"opcodes": frozenset((0, value) for value in range(256)),
            "bits": frozenset((place, 1 << bit) for place in range(64) for bit in range(8))}
+# What is said of a configuration that is refused, by docs/SCRIPTS.md: which number of its line, and what is due there. In braces stands a
+# number of the line, from 1.
+REFUSED = {
+    21: "2: AWUN is {2}, due is 0 to 255", 22: "3: ACWU is {3}, due is 0 to 255",
+    23: "4: NABSN is {4}, due is 0, or no less than AWUN, {2}, and ACWU, {3}", 24: "5: NABO is {5}, due is 0 to NABSN, {4}",
+    25: "1: BLOCKS is {1}, due is 1 to 65536", 26: "6: PAIRS is {6}, due is 1 to 16", 27: "7: SQ is {7}, due is 2 to 1024",
+    28: "8: CQ is {8}, due is 2 to 1024", 29: "9: JOBS is {9}, due is 1 to 256",
+    30: "10: CQS is {10}, due is 1 or more, and less than PAIRS, {6}"}
 # What may be done with the line at a place.
 EDITS = {
     "left out": lambda lines, at: lines[:at] + lines[at + 1 :],
@@ -141,7 +149,10 @@ def shown(output):
 def ends(program, command, text, end, output=""):
     """That a text's run ends well, its check or explanation with this answer, or any with what is wrong with it."""
     if end.startswith(("bad line ", "bad config ")):
-        wanted = 2, output, f"{end}\n"
+        why = ""
+        if end.startswith("bad config "):
+            why = f"line 1, number {REFUSED[int(end.split(' ')[2])].format(*lines_in(text)[0].split(' '))}\n"
+        wanted = 2, output, f"{end}\n{why}"
     elif command in ("run", "tell"):
         same("ok", end)
         wanted = 0, output, ""
@@ -203,7 +214,7 @@ def told(program, _, line, words):
     """A line of a history, in words; coloured, the same between two codes."""
     text = text_of([CONFIG, line])
     ends(program, "tell", text, "ok", text_of([TOLD, words]))
-    status, output, said = program(("tell", "--color"), text)
+    status, output, said = program(("tell", "--color=always"), text)
     bare = re.sub(r"\x1b\[(?:3[1-7]|0)m", "", output)
     same((0, text_of([TOLD, words]), "", 4), (status, bare, said, output.count("\x1b")))
 

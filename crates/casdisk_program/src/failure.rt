@@ -46,16 +46,20 @@ pub(crate) fn end_failure<R: Eprint>(rt: &R, failure: Failure) -> u8 {
     end_fault(rt, fault, fault.status(), why)
 }
 
-// The system's own cause.
+// The system's own cause, in its words where it is one of those that a name gives most often.
 #[derive(Drop)]
 struct SystemCause(ErrorKind);
 
 impl fmt::Display for SystemCause {
     fn fmt<W: fmt::Write>(&self, f: &mut fmt::Formatter<W>) -> fmt::Result {
-        if self.0 == ErrorKind::NotFound {
-            return f.write_str("no such file");
+        match self.0 {
+            ErrorKind::NotFound => f.write_str("No such file or directory"),
+            ErrorKind::PermissionDenied => f.write_str("Permission denied"),
+            ErrorKind::IsADirectory => f.write_str("Is a directory"),
+            ErrorKind::NotADirectory => f.write_str("Not a directory"),
+            ErrorKind::StorageFull => f.write_str("No space left on device"),
+            other => write!(f, "{other}"),
         }
-        write!(f, "{}", self.0)
     }
 }
 
@@ -79,6 +83,11 @@ impl fmt::Display for Quoted<'_> {
 
 // What is the matter with a line that is right by itself.
 fn misplaced(alloc: Global, grammar: Grammar, number: u64, text: &[u8]) -> Option<String> {
+    if grammar == Grammar::Slice {
+        return format!(in alloc;
+            "line {number}: blocks rise, and behind them commands, by their queue and their entry"
+        ).ok();
+    }
     if grammar != Grammar::Trace || parse_option(text).is_none() {
         return None;
     }
@@ -121,40 +130,46 @@ fn first_word(text: &[u8]) -> &[u8] {
     text
 }
 
-// The numbers of which a fault of a configuration speaks.
+// Which number of a configuration line a fault is about, what it is, and what is due there.
 #[derive(Drop)]
-struct NumbersOf(ConfigFault, ConfigNumbers);
+struct Refused(ConfigFault, ConfigNumbers);
 
-impl fmt::Display for NumbersOf {
+impl fmt::Display for Refused {
     fn fmt<W: fmt::Write>(&self, f: &mut fmt::Formatter<W>) -> fmt::Result {
         let c = self.1;
         let cut = c.atomic;
         match self.0 {
-            ConfigFault::AwunTooLarge => write!(f, "AWUN {}", cut.awun),
-            ConfigFault::AcwuTooLarge => write!(f, "ACWU {}", cut.acwu),
-            ConfigFault::BoundaryBelowUnit => {
-                write!(
-                    f,
-                    "NABSN {}, AWUN {}, ACWU {}",
-                    cut.nabsn, cut.awun, cut.acwu
-                )
-            }
-            ConfigFault::OffsetPastBoundary => write!(f, "NABO {}, NABSN {}", cut.nabo, cut.nabsn),
-            ConfigFault::Blocks => write!(f, "BLOCKS {}", c.blocks),
-            ConfigFault::Pairs => write!(f, "PAIRS {}", c.pairs),
-            ConfigFault::SqSize => write!(f, "SQ {}", c.sq_size),
-            ConfigFault::CqSize => write!(f, "CQ {}", c.cq_size),
-            ConfigFault::Jobs => write!(f, "JOBS {}", c.jobs),
-            ConfigFault::CqCount => write!(f, "CQS {}, PAIRS {}", c.cqs, c.pairs),
+            ConfigFault::AwunTooLarge => write!(f, "2: AWUN is {}, due is 0 to 255", cut.awun),
+            ConfigFault::AcwuTooLarge => write!(f, "3: ACWU is {}, due is 0 to 255", cut.acwu),
+            ConfigFault::BoundaryBelowUnit => write!(
+                f,
+                "4: NABSN is {}, due is 0, or no less than AWUN, {}, and ACWU, {}",
+                cut.nabsn, cut.awun, cut.acwu
+            ),
+            ConfigFault::OffsetPastBoundary => write!(
+                f,
+                "5: NABO is {}, due is 0 to NABSN, {}",
+                cut.nabo, cut.nabsn
+            ),
+            ConfigFault::Blocks => write!(f, "1: BLOCKS is {}, due is 1 to 65536", c.blocks),
+            ConfigFault::Pairs => write!(f, "6: PAIRS is {}, due is 1 to 16", c.pairs),
+            ConfigFault::SqSize => write!(f, "7: SQ is {}, due is 2 to 1024", c.sq_size),
+            ConfigFault::CqSize => write!(f, "8: CQ is {}, due is 2 to 1024", c.cq_size),
+            ConfigFault::Jobs => write!(f, "9: JOBS is {}, due is 1 to 256", c.jobs),
+            ConfigFault::CqCount => write!(
+                f,
+                "10: CQS is {}, due is 1 or more, and less than PAIRS, {}",
+                c.cqs, c.pairs
+            ),
         }
     }
 }
 
-// What a refused configuration says of the numbers that are refused.
-fn config_reason(alloc: Global, number: u8, text: &[u8]) -> Option<String> {
+/// What a configuration line that stands there says of the number that is refused.
+pub(crate) fn config_reason(alloc: Global, place: &str, line: &[u8], number: u8) -> Option<String> {
     let fault = ConfigFault::of_number(number)?;
-    let numbers = read_config_line(alloc, text).ok()?;
-    format!(in alloc; "line 1: {fault}: {}", NumbersOf(fault, numbers)).ok()
+    let numbers = read_config_line(alloc, line).ok()?;
+    format!(in alloc; "{place}, number {}", Refused(fault, numbers)).ok()
 }
 
 // What a file is called that was asked for.
@@ -165,33 +180,29 @@ fn name_of(file: &str) -> &str {
     file
 }
 
+// A file, and why the system didn't do what it was asked there.
+fn named_cause(alloc: Global, file: &str, kind: ErrorKind) -> Option<String> {
+    format!(in alloc; "casdisk: {}: {}", name_of(file), SystemCause(kind)).ok()
+}
+
 /// Why a file wasn't opened.
-pub(crate) fn unopened(alloc: Global, file: &str, kind: ErrorKind, asked: bool) -> Failure {
-    let why = if asked {
-        format!(in alloc; "{}: {}", name_of(file), SystemCause(kind)).ok()
-    } else {
-        None
-    };
+pub(crate) fn unopened(alloc: Global, file: &str, kind: ErrorKind) -> Failure {
     Failure {
         fault: RunFault::Input,
-        why,
+        why: named_cause(alloc, file, kind),
     }
 }
 
 /// Why a file wasn't written.
-pub(crate) fn unwritten(alloc: Global, file: &str, kind: ErrorKind, asked: bool) -> Failure {
-    let why = if asked {
-        format!(in alloc; "{file}: {}", SystemCause(kind)).ok()
-    } else {
-        None
-    };
+pub(crate) fn unwritten(alloc: Global, file: &str, kind: ErrorKind) -> Failure {
     Failure {
         fault: RunFault::Output,
-        why,
+        why: named_cause(alloc, file, kind),
     }
 }
 
-/// Why what was read of a file failed so, where that is asked for; its lines behind the first are those of `grammar`.
+/// Why what was read of a file failed so: always where it couldn't be read or its configuration is refused, and of a
+/// bad line where that is asked for. The lines behind its first are those of `grammar`.
 pub(crate) fn failure_of<R: Read + Drop>(
     alloc: Global,
     file: &str,
@@ -199,36 +210,41 @@ pub(crate) fn failure_of<R: Read + Drop>(
     grammar: Grammar,
     fault: RunFault,
 ) -> Failure {
-    let why = if read.keeps() {
-        reason_of(alloc, file, read, grammar, fault)
-    } else {
-        None
+    let why = match fault {
+        RunFault::BadLine(number) => bad_line_reason(alloc, read, grammar, number),
+        RunFault::BadConfig(number) => config_reason(alloc, "line 1", read.first_line(), number),
+        RunFault::Input => match read.failed() {
+            Some(kind) => named_cause(alloc, file, kind),
+            None => None,
+        },
+        RunFault::Output | RunFault::NoMemory => None,
     };
     Failure { fault, why }
 }
 
-fn reason_of<R: Read + Drop>(
+// Which line of this number there has to be, where those behind are of this grammar.
+fn grammar_of(behind: Grammar, number: u64) -> Grammar {
+    match (behind, number) {
+        (Grammar::Slice, 1) => Grammar::RefutationHead,
+        (Grammar::Slice, 2) => Grammar::RefutedLines,
+        (_, 1) => Grammar::Configuration,
+        (_, _) => behind,
+    }
+}
+
+// Why the line of this number is none, where its text is kept.
+fn bad_line_reason<R: Read + Drop>(
     alloc: Global,
-    file: &str,
     read: &Kept<R>,
     grammar: Grammar,
-    fault: RunFault,
+    number: u64,
 ) -> Option<String> {
-    match fault {
-        RunFault::BadLine(number) => {
-            let line = read.line(number)?;
-            let of = if number == 1 {
-                Grammar::Configuration
-            } else {
-                grammar
-            };
-            line_reason(alloc, of, number, line.text, line.fed)
-        }
-        RunFault::BadConfig(number) => config_reason(alloc, number, read.line(1)?.text),
-        RunFault::Input => {
-            let kind = read.failed()?;
-            format!(in alloc; "{}: {}", name_of(file), SystemCause(kind)).ok()
-        }
-        RunFault::Output | RunFault::NoMemory => None,
-    }
+    let line = read.line(number)?;
+    line_reason(
+        alloc,
+        grammar_of(grammar, number),
+        number,
+        line.text,
+        line.fed,
+    )
 }

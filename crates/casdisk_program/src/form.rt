@@ -51,6 +51,18 @@ pub enum Form {
     Field,
     /// One more such field, or the end of the line.
     MoreFields,
+    /// The one word of a refutation's first line.
+    Refutation,
+    /// The word that a refutation's second line begins with.
+    Lines,
+    /// The word that a further line of a refutation begins with.
+    Part,
+    /// The number of a refusal that a run prints.
+    Refusal,
+    /// A block as it lies in the volume.
+    Medium,
+    /// The data beside a completion, or the end of the line.
+    MoreData,
 }
 
 impl fmt::Display for Form {
@@ -79,6 +91,12 @@ impl fmt::Display for Form {
             Form::Field => "DNR, MORE, CRD, DW0, DW1 or SQHD",
             Form::MoreFields =>
                 "one more of DNR, MORE, CRD, DW0, DW1 and SQHD, in this order, or the end of the line",
+            Form::Refutation => "refutation",
+            Form::Lines => "lines",
+            Form::Part => "block or command",
+            Form::Refusal => "a number from 1 to 10",
+            Form::Medium => "a block, as 2 or 1024 digits, or none",
+            Form::MoreData => "data, or the end of the line",
         })
     }
 }

@@ -13,11 +13,25 @@ pub enum Grammar {
     History,
     /// A line of a trace behind its first.
     Trace,
+    /// A line that is told in words, behind the first of a history, of what a run prints, or of a trace.
+    Told,
+    /// The first line of a refutation.
+    RefutationHead,
+    /// The second line of a refutation.
+    RefutedLines,
+    /// A line of a refutation behind its second.
+    Slice,
 }
 
 static CONFIGURATION: [Form; 1] = [Form::Configuration];
 
 static KIND: [Form; 1] = [Form::Kind];
+
+static HEAD: [Form; 1] = [Form::Refutation];
+
+static LINES: [Form; 1] = [Form::Lines];
+
+static PART: [Form; 1] = [Form::Part];
 
 // The numbers of a configuration line; one with as many completion queues as pairs leaves out the last.
 static CONFIG_NUMBERS: [Form; 10] = [
@@ -36,6 +50,14 @@ static CONFIG_NUMBERS: [Form; 10] = [
 static NUMBER_16: [Form; 1] = [Form::Number16];
 
 static NUMBER_64: [Form; 1] = [Form::Number64];
+
+static COMMAND_PLACE: [Form; 2] = [Form::Number16, Form::Number64];
+
+static REFUSAL: [Form; 1] = [Form::Refusal];
+
+static MEDIUM: [Form; 2] = [Form::Number64, Form::Medium];
+
+static REAP_TOLD: [Form; 3] = [Form::Number16, Form::Completion, Form::MoreData];
 
 static NAMED_BATCH: [Form; 2] = [Form::Number16, Form::Name];
 
@@ -154,6 +176,36 @@ fn behind_trace_kind(word: &[u8]) -> Option<&'static [Form]> {
     None
 }
 
+// What follows a kind of lines that are told.
+fn behind_told_kind(word: &[u8]) -> Option<&'static [Form]> {
+    if word == b"refused".as_slice() {
+        return Some(&REFUSAL);
+    }
+    if word == b"medium".as_slice() {
+        return Some(&MEDIUM);
+    }
+    if word == b"reap".as_slice() {
+        return Some(&REAP_TOLD);
+    }
+    behind_history_kind(word)
+}
+
+// What follows the first word of a line of a refutation's slice.
+fn behind_part(word: &[u8]) -> Option<&'static [Form]> {
+    if word == b"block".as_slice() {
+        return Some(&NUMBER_64);
+    }
+    if word == b"command".as_slice() {
+        return Some(&COMMAND_PLACE);
+    }
+    None
+}
+
+// What follows the one word that a line begins with.
+fn behind_one(one: &[u8], forms: &'static [Form], word: &[u8]) -> Option<&'static [Form]> {
+    if word == one { Some(forms) } else { None }
+}
+
 // What follows the first word of a configuration line.
 fn behind_configuration(word: &[u8]) -> Option<&'static [Form]> {
     if word == b"config".as_slice() {
@@ -169,7 +221,10 @@ fn behind_configuration(word: &[u8]) -> Option<&'static [Form]> {
 pub(crate) fn first_form(grammar: Grammar) -> &'static [Form] {
     match grammar {
         Grammar::Configuration => &CONFIGURATION,
-        Grammar::Script | Grammar::History | Grammar::Trace => &KIND,
+        Grammar::Script | Grammar::History | Grammar::Trace | Grammar::Told => &KIND,
+        Grammar::RefutationHead => &HEAD,
+        Grammar::RefutedLines => &LINES,
+        Grammar::Slice => &PART,
     }
 }
 
@@ -180,6 +235,10 @@ pub(crate) fn behind_first(grammar: Grammar, word: &[u8]) -> Option<&'static [Fo
         Grammar::Script => behind_script_kind(word),
         Grammar::History => behind_history_kind(word),
         Grammar::Trace => behind_trace_kind(word),
+        Grammar::Told => behind_told_kind(word),
+        Grammar::RefutationHead => behind_one(b"refutation", &NOTHING, word),
+        Grammar::RefutedLines => behind_one(b"lines", &NUMBER_64, word),
+        Grammar::Slice => behind_part(word),
     }
 }
 
@@ -206,7 +265,13 @@ fn behind_name(word: &[u8]) -> &'static [Form] {
 fn behind_more(grammar: Grammar) -> &'static [Form] {
     match grammar {
         Grammar::Script => &NAMED,
-        Grammar::Configuration | Grammar::History | Grammar::Trace => &RAW,
+        Grammar::Configuration
+        | Grammar::History
+        | Grammar::Trace
+        | Grammar::Told
+        | Grammar::RefutationHead
+        | Grammar::RefutedLines
+        | Grammar::Slice => &RAW,
     }
 }
 
@@ -256,6 +321,12 @@ pub(crate) fn behind_word(
         | Form::Mark
         | Form::Unknown
         | Form::Any
-        | Form::Field => others,
+        | Form::Field
+        | Form::Refutation
+        | Form::Lines
+        | Form::Part
+        | Form::Refusal
+        | Form::Medium
+        | Form::MoreData => others,
     }
 }

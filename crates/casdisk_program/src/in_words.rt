@@ -1,6 +1,9 @@
 //! The command that tells a history in words.
 
-use crate::input::open;
+use crate::failure::{Failure, failure_of};
+use crate::grammar::Grammar;
+use crate::input::{Source, opened};
+use crate::kept::Kept;
 use crate::output_buffer::BUFFER;
 use casdisk_texts::RunFault;
 use file_commands::tell_text;
@@ -9,26 +12,36 @@ use std::io;
 use std::io::{BufWriter, Write};
 use std::rt::Files;
 
-// Tells a history, and then gives the status 0: what comes from standard input line by line, a file in pieces.
-pub(crate) fn tell_file<R: Files + Input + Print + AllocGlobal>(
+// Tells what is read: of standard input line by line, of a file in pieces.
+fn told<R: Files + Input + Print + AllocGlobal>(
     rt: &R,
-    color: bool,
+    paint: Paint,
     file: &str,
-) -> Result<u8, RunFault> {
-    let paint = if color { Paint::Colored } else { Paint::Plain };
-    let mut input = open(rt, file).map_err(|_| RunFault::Input)?;
+    input: &mut Kept<Source<R::File, R::Reader>>,
+) -> Result<(), RunFault> {
     if file == "-" {
-        let mut output = io::writer(rt);
-        tell_text(rt.alloc(), &mut input, &mut output, paint)?;
-        return Ok(0);
+        return tell_text(rt.alloc(), input, &mut io::writer(rt), paint);
     }
     let Ok(mut output) = BufWriter::with_capacity(rt.alloc(), BUFFER, io::writer(rt)) else {
         return Err(RunFault::NoMemory);
     };
-    let done = tell_text(rt.alloc(), &mut input, &mut output, paint);
+    let done = tell_text(rt.alloc(), input, &mut output, paint);
     if output.flush().is_err() {
         return Err(RunFault::Output);
     }
-    done?;
-    Ok(0)
+    done
+}
+
+/// Tells a history, and then gives the status 0.
+pub(crate) fn tell_file<R: Files + Input + Print + AllocGlobal>(
+    rt: &R,
+    paint: Paint,
+    why: bool,
+    file: &str,
+) -> Result<u8, Failure> {
+    let mut input = opened(rt, file, why)?;
+    match told(rt, paint, file, &mut input) {
+        Ok(()) => Ok(0),
+        Err(fault) => Err(failure_of(rt.alloc(), file, &input, Grammar::Told, fault)),
+    }
 }

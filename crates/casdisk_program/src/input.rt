@@ -38,7 +38,7 @@ pub(crate) fn opened<R: Files + Input + AllocGlobal>(
 ) -> Result<Kept<Source<R::File, R::Reader>>, Failure> {
     match open(rt, name) {
         Ok(source) => Ok(Kept::new(rt.alloc(), source, why)),
-        Err(error) => Err(unopened(rt.alloc(), name, error.kind(), why)),
+        Err(error) => Err(unopened(rt.alloc(), name, error.kind())),
     }
 }
 

@@ -3,12 +3,28 @@
 use std::alloc::Global;
 use std::io::{ErrorKind, Read, Result as IoResult};
 
+// How many bytes of the front are kept: more than any configuration line has.
+const FRONT: usize = 256;
+
+// What is kept of what was given.
+#[derive(Clone, Copy, PartialEq, Eq)]
+enum Keeping {
+    // its front alone
+    Front,
+    // what was given last
+    Last,
+    All,
+}
+
 /// A reader that keeps what it gave last, where it is asked to: the bytes from the begin of the newest line that was
-/// whole or in part before its last read.
+/// whole or in part before its last read. It keeps the front of its text always.
 #[derive(Drop)]
 pub(crate) struct Kept<R: Read + Drop> {
     source: R,
-    keeps: bool,
+    keeps: Keeping,
+    front: [u8; FRONT],
+    // how many of them there are
+    filled: usize,
     text: Vec<u8>,
     // the number of its first line, from 1
     first: u64,
@@ -45,20 +61,18 @@ pub(crate) struct KeptLine<'a> {
 }
 
 impl<R: Read + Drop> Kept<R> {
-    /// One that has read nothing; it keeps what it reads where `keeps` is true.
+    /// One that has read nothing; it keeps what it reads last where `keeps` is true.
     pub(crate) fn new(alloc: Global, source: R, keeps: bool) -> Kept<R> {
+        let keeps = if keeps { Keeping::Last } else { Keeping::Front };
         Kept {
             source,
             keeps,
+            front: [0; FRONT],
+            filled: 0,
             text: Vec::new(alloc),
             first: 1,
             failed: None,
         }
-    }
-
-    /// Whether it was asked to keep what it gives.
-    pub(crate) fn keeps(&self) -> bool {
-        self.keeps
     }
 
     /// Why a read failed.
@@ -66,8 +80,16 @@ impl<R: Read + Drop> Kept<R> {
         self.failed
     }
 
+    /// The first line, or its front, where it is longer than any configuration line.
+    pub(crate) fn first_line(&self) -> &[u8] {
+        first_line(&self.front[..self.filled.min(FRONT)]).line
+    }
+
     /// The line of this number, where it is kept.
     pub(crate) fn line(&self, number: u64) -> Option<KeptLine<'_>> {
+        if self.keeps == Keeping::Front {
+            return None;
+        }
         let mut rest = self.text.as_slice();
         let mut at = self.first;
         for _turn in 0..u64::MAX {
@@ -84,6 +106,36 @@ impl<R: Read + Drop> Kept<R> {
         None
     }
 
+    // Keeps these bytes at the front, as far as there is room.
+    fn keep_front(&mut self, bytes: &[u8]) {
+        for byte in bytes {
+            if self.filled >= FRONT {
+                return;
+            }
+            self.front[self.filled] = *byte;
+            self.filled += 1;
+        }
+    }
+
+    /// The same, keeping all that it reads where it keeps what it reads last: for a text that is read whole before its
+    /// lines are.
+    pub(crate) fn whole(self) -> Kept<R> {
+        let keeps = if self.keeps == Keeping::Last {
+            Keeping::All
+        } else {
+            self.keeps
+        };
+        Kept { keeps, ..self }
+    }
+
+    // Keeps these bytes behind all others.
+    fn keep_all(&mut self, bytes: &[u8]) {
+        if self.text.extend_from_slice(bytes).is_err() {
+            // (then no line has a number any more)
+            self.first = u64::MAX;
+        }
+    }
+
     // Keeps these bytes behind the newest line that isn't whole yet.
     fn keep(&mut self, bytes: &[u8]) {
         let whole = whole_of(self.text.as_slice());
@@ -92,10 +144,7 @@ impl<R: Read + Drop> Kept<R> {
         self.text.copy_within(from.., 0);
         self.text.truncate(left);
         self.first = self.first.saturating_add(whole.lines);
-        if self.text.extend_from_slice(bytes).is_err() {
-            // (then no line has a number any more)
-            self.first = u64::MAX;
-        }
+        self.keep_all(bytes);
     }
 }
 
@@ -125,8 +174,11 @@ impl<R: Read + Drop> Read for Kept<R> {
     fn read(&mut self, buf: &mut [u8]) -> IoResult<usize> {
         match self.source.read(buf) {
             Ok(count) => {
-                if self.keeps {
-                    self.keep(&buf[..count]);
+                self.keep_front(&buf[..count]);
+                match self.keeps {
+                    Keeping::Front => {}
+                    Keeping::Last => self.keep(&buf[..count]),
+                    Keeping::All => self.keep_all(&buf[..count]),
                 }
                 Ok(count)
             }

@@ -36,7 +36,7 @@ pub use crate::counter::Counter;
 pub use crate::form::Form;
 pub use crate::grammar::Grammar;
 pub use crate::output_buffer::BUFFER;
-pub use crate::program::run_program;
+pub use crate::program::{Terminals, run_program};
 pub use crate::race_tracing::print_trace;
 pub use crate::racing::race_as_asked;
 pub use crate::randoms::random_file;

@@ -43,12 +43,11 @@ fn observed<T: Read, V: Write, R: AllocGlobal>(
 fn written<R: Files + Print + AllocGlobal>(
     rt: &R,
     found: Option<(&str, &[u8])>,
-    why: bool,
     said: &[u8],
 ) -> Result<(), Failure> {
     if let Some((file, text)) = found {
         if let Err(error) = fs::write(rt, file, text) {
-            return Err(unwritten(rt.alloc(), file, error.kind(), why));
+            return Err(unwritten(rt.alloc(), file, error.kind()));
         }
     }
     if writer(rt).write_all(said).is_err() {
@@ -77,7 +76,7 @@ pub(crate) fn observe_file<R: Files + Input + Print + AllocGlobal>(
     match answer {
         Ok(answer) => {
             let found = file_for(files, answer).map(|file| (file, text.as_slice()));
-            written(rt, found, why, said.as_slice())?;
+            written(rt, found, said.as_slice())?;
             Ok(answer.status())
         }
         Err(fault) => Err(failure_of(rt.alloc(), trace, &input, Grammar::Trace, fault)),

@@ -17,13 +17,16 @@ use crate::seeding::race_asked;
 use crate::shrinking::shrink_file;
 use crate::slots::{check_slots_file, explain_slots_file};
 use crate::tracing::trace_run;
-use crate::unmarked::unmarked_unit;
-use crate::words::{ExplainedWords, Unmarked};
-use broken_rules::Broken;
-use casdisk_texts::{Explained, RunFault, check_text, explain_text, follow_text, run_script};
-use command_line::{Asked, Shown, UsageFault, asked};
+use crate::unmarked::Watched;
+use crate::words::ExplainedWords;
+use casdisk_texts::{
+    Explained, RunFault, check_text, explain_text, follow_explained, follow_text, run_script,
+    tell_answer,
+};
+use command_line::{Asked, ColorChoice, Shown, UsageFault, asked};
 use history::Kinds;
-use nvme_model::config::ConfigFault;
+use history_words::Paint;
+use std::env::VarError;
 use std::io::{BufWriter, Read, Write};
 use std::process::ExitCode;
 use std::rt::{Env, Files};
@@ -31,6 +34,13 @@ use std::sync::Wait;
 use std::thread::Threads;
 use std::time::Clock;
 use std::{env, io};
+
+/// Which of both are terminals: standard output, and standard error, which takes the words.
+#[derive(Clone, Copy)]
+pub struct Terminals {
+    pub output: bool,
+    pub words: bool,
+}
 
 /// Does what the words of the command line ask, and says with which status the program ends: 0 where it is done, 1
 /// where a history isn't legal or doesn't explain a trace, a trace is refuted or isn't by what is said to, or a race
@@ -40,14 +50,14 @@ use std::{env, io};
 /// second.
 pub fn run_program<
     R: Threads + Wait + Sync + Files + Clock + Env + Input + Print + Eprint + AllocGlobal,
->(rt: &R, terminal: bool) -> ExitCode {
+>(rt: &R, terminals: Terminals) -> ExitCode {
     let words: Result<Vec<String>, io::Error> = match env::args(rt) {
         Ok(args) => args.collect(rt.alloc()).map_err(io::Error::from),
         Err(error) => Err(error),
     };
     match words {
         Ok(words) => match asked(rt.alloc(), words.as_slice()) {
-            Ok(what) => finish(rt, what, terminal),
+            Ok(what) => finish(rt, what, terminals),
             Err(UsageFault::Text(text)) => end_with(rt, 2, text.as_str()),
             Err(UsageFault::NoMemory) => end_with(rt, 4, "no memory"),
         },
@@ -67,11 +77,34 @@ fn end_with<R: Eprint>(rt: &R, status: u8, words: &str) -> ExitCode {
     ExitCode::from(status)
 }
 
-fn finish<R: Threads + Wait + Sync + Files + Clock + Input + Print + Eprint + AllocGlobal>(
+// Whether the environment asks for no colours: by a `NO_COLOR` that isn't empty.
+fn asks_no_color<R: Env + AllocGlobal>(rt: &R) -> bool {
+    match env::var(rt, "NO_COLOR") {
+        Ok(text) => !text.as_bytes().is_empty(),
+        Err(error) => error != VarError::NotPresent,
+    }
+}
+
+// Whether lines are coloured, where standard output is a terminal or isn't.
+fn paint_of<R: Env + AllocGlobal>(rt: &R, color: ColorChoice, terminal: bool) -> Paint {
+    let colored = match color {
+        ColorChoice::Auto => terminal && !asks_no_color(rt),
+        ColorChoice::Always => true,
+        ColorChoice::Never => false,
+    };
+    if colored {
+        Paint::Colored
+    } else {
+        Paint::Plain
+    }
+}
+
+fn finish<R: Threads + Wait + Sync + Files + Clock + Env + Input + Print + Eprint + AllocGlobal>(
     rt: &R,
     what: Asked<'_>,
-    told: bool,
+    terminals: Terminals,
 ) -> ExitCode {
+    let told = terminals.words;
     let outcome = match what {
         Asked::Run {
             shown: Shown::Trace,
@@ -95,15 +128,28 @@ fn finish<R: Threads + Wait + Sync + Files + Clock + Input + Print + Eprint + Al
             area: Some(area),
             why,
             file,
+            ..
         } => Ok(explain_slots_file(rt, area, why, file)),
         Asked::Check {
             follow,
             quiet,
+            why: false,
+            file,
+            ..
+        } => check_file(rt, follow, told && !quiet, file),
+        Asked::Check {
+            follow,
+            quiet,
+            why: true,
+            file,
+            ..
+        } => check_why_file(rt, follow, told && !quiet, file),
+        Asked::Explain {
+            follow,
             why,
             file,
             ..
-        } => check_file(rt, follow, told && !quiet, why, file),
-        Asked::Explain { why, file, .. } => explain_file(rt, why, file),
+        } => explain_file(rt, follow, why, file),
         Asked::Certify {
             delayed,
             why,
@@ -131,7 +177,9 @@ fn finish<R: Threads + Wait + Sync + Files + Clock + Input + Print + Eprint + Al
             why,
             trace,
         ),
-        Asked::Tell { color, file } => tell_file(rt, color, file).map_err(Failure::from),
+        Asked::Tell { color, why, file } => {
+            tell_file(rt, paint_of(rt, color, terminals.output), why, file)
+        }
         Asked::Draw {
             from,
             to,
@@ -218,12 +266,11 @@ fn check_file<R: Files + Clock + Input + Print + Eprint + AllocGlobal>(
     rt: &R,
     follow: bool,
     told: bool,
-    why: bool,
     file: &str,
 ) -> Result<u8, Failure> {
     let size = if told { size_of(rt, file) } else { None };
     let counter = Counter::new(rt, told, size);
-    let mut input = CountedReader::new(counter, opened(rt, file, why)?);
+    let mut input = CountedReader::new(counter, opened(rt, file, false)?);
     let mut output = io::writer(rt);
     let answer = if follow {
         follow_text(rt.alloc(), &mut input, &mut output)
@@ -237,60 +284,79 @@ fn check_file<R: Files + Clock + Input + Print + Eprint + AllocGlobal>(
     }
 }
 
-/// The unit without a mark for which a ticket owes no completion.
-pub(crate) fn cause_of<R: Files + Input + AllocGlobal>(
+// What is said of a history, where it follows up to its first bad step.
+fn explained_by<R: AllocGlobal, I: Read>(
     rt: &R,
-    file: &str,
-    explained: Explained,
-) -> Option<Unmarked> {
-    let Explained::BadAt(step) = explained else {
-        return None;
-    };
-    let Broken::NothingOwed { ticket } = step.broken else {
-        return None;
-    };
-    unmarked_unit(rt, file, ticket, step.place.saturating_add(1))
-}
-
-/// What a refused configuration means, which an explanation says always.
-pub(crate) fn meaning_of(fault: RunFault) -> Option<ConfigFault> {
-    match fault {
-        RunFault::BadConfig(number) => ConfigFault::of_number(number),
-        RunFault::BadLine(_) | RunFault::Input | RunFault::Output | RunFault::NoMemory => None,
+    follow: bool,
+    input: &mut I,
+) -> Result<Explained, RunFault> {
+    if follow {
+        follow_explained(rt.alloc(), input)
+    } else {
+        explain_text(rt.alloc(), input)
     }
 }
 
-// Explains a history, and gives the status 0 where it is legal, 1 where it isn't, else that of the fault. Behind the
-// words of a refused configuration it says what its number means.
-fn explain_file<R: Files + Input + Print + Eprint + AllocGlobal>(
+// The status of what is said of a history.
+fn explained_status(explained: Explained) -> u8 {
+    if explained == Explained::Legal { 0 } else { 1 }
+}
+
+// Checks a history in the same way, and says behind the answer, on standard error, which rule its first bad step
+// breaks.
+fn check_why_file<R: Files + Clock + Input + Print + Eprint + AllocGlobal>(
     rt: &R,
+    follow: bool,
+    told: bool,
+    file: &str,
+) -> Result<u8, Failure> {
+    let size = if told { size_of(rt, file) } else { None };
+    let counter = Counter::new(rt, told, size);
+    let kept = CountedReader::new(counter, opened(rt, file, true)?);
+    let mut input = Watched::new(rt.alloc(), kept);
+    let explained = match explained_by(rt, follow, &mut input) {
+        Ok(explained) => explained,
+        Err(fault) => {
+            let read = &input.source.source;
+            return Err(failure_of(rt.alloc(), file, read, Grammar::History, fault));
+        }
+    };
+    let place = match explained {
+        Explained::Legal => None,
+        Explained::BadAt(step) => Some(step.place),
+    };
+    tell_answer(place, &mut io::writer(rt))?;
+    if place.is_some() {
+        let unmarked = input.cause_of(explained);
+        // (where standard error takes no words, the answer stands alone)
+        let _ = rt.eprintln(ExplainedWords {
+            explained,
+            unmarked,
+        });
+    }
+    Ok(explained_status(explained))
+}
+
+// Explains a history, where it follows up to its first bad step, and gives the status 0 where it is legal, else 1.
+fn explain_file<R: Files + Input + Print + AllocGlobal>(
+    rt: &R,
+    follow: bool,
     why: bool,
     file: &str,
 ) -> Result<u8, Failure> {
-    let mut input = opened(rt, file, why)?;
-    let explained = match explain_text(rt.alloc(), &mut input) {
+    let mut input = Watched::new(rt.alloc(), opened(rt, file, why)?);
+    let explained = match explained_by(rt, follow, &mut input) {
         Ok(explained) => explained,
         Err(fault) => {
-            let failure = failure_of(rt.alloc(), file, &input, Grammar::History, fault);
-            if failure.why.is_some() {
-                return Err(failure);
-            }
-            let Some(meaning) = meaning_of(fault) else {
-                return Err(failure);
-            };
-            let _ = rt.eprintln(fault);
-            let _ = rt.eprintln(meaning);
-            return Ok(fault.status());
+            return Err(failure_of(rt.alloc(), file, &input.source, Grammar::History, fault));
         }
     };
-    let status = if explained == Explained::Legal { 0 } else { 1 };
-    let unmarked = cause_of(rt, file, explained);
     let words = ExplainedWords {
         explained,
-        unmarked,
+        unmarked: input.cause_of(explained),
     };
     if rt.println(words).is_err() {
         return Err(Failure::from(RunFault::Output));
     }
-    Ok(status)
+    Ok(explained_status(explained))
 }

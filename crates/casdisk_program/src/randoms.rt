@@ -1,13 +1,14 @@
 //! The command `random`.
 
 use crate::BUFFER;
+use crate::failure::{config_reason, end_fault};
 use casdisk_texts::RunFault;
 use history::{Config, LineFault, PrintFault, read_config_line};
 use random_numbers::RandomNumbers;
 use random_script::{ScriptKind, draw_config, write_random};
 use std::alloc::Global;
+use std::io;
 use std::io::{BufWriter, Write};
-use std::{fmt, io};
 
 const NO_KIND: &str =
     "error: no such kind in '--like': there are single, pairs, units, queues, hostile, slots and mixed";
@@ -37,14 +38,19 @@ fn spaces_in(text: &str) -> u64 {
     spaces
 }
 
-// The configuration of these numbers.
-fn config_of(alloc: Global, numbers: &str) -> Result<Config, Unprinted> {
+// The configuration line of these numbers.
+fn config_line(alloc: Global, numbers: &str) -> Option<String> {
     let line = if spaces_in(numbers) > 8 {
         format!(in alloc; "config2 {numbers}")
     } else {
         format!(in alloc; "config {numbers}")
     };
-    let Ok(line) = line else {
+    line.ok()
+}
+
+// The configuration of these numbers.
+fn config_of(alloc: Global, numbers: &str) -> Result<Config, Unprinted> {
+    let Some(line) = config_line(alloc, numbers) else {
         return Err(Unprinted::Run(RunFault::NoMemory));
     };
     let read = match read_config_line(alloc, line.as_bytes()) {
@@ -121,10 +127,13 @@ fn print_script<R: Print + AllocGlobal>(
     printed(rt, &mut random, chosen, kind, count)
 }
 
-// Says why no script was printed, and gives this status: where standard error takes no words, that alone.
-fn end_with<R: Eprint, F: fmt::Display + Drop>(rt: &R, fault: F, status: u8) -> u8 {
-    let _ = rt.eprintln(fault);
-    status
+// What a refused configuration says of the number that is refused.
+fn refused_number(alloc: Global, numbers: Option<&str>, fault: RunFault) -> Option<String> {
+    let RunFault::BadConfig(number) = fault else {
+        return None;
+    };
+    let line = config_line(alloc, numbers?)?;
+    config_reason(alloc, "--config", line.as_bytes(), number)
 }
 
 /// Prints the script of a seed, and gives the status 0, else that of the fault, whose words go to standard error.
@@ -137,9 +146,12 @@ pub fn random_file<R: Print + Eprint + AllocGlobal>(
 ) -> u8 {
     match print_script(rt, seed, lines, config, like) {
         Ok(()) => 0,
-        Err(Unprinted::NoKind) => end_with(rt, NO_KIND, 2),
-        Err(Unprinted::NoConfig) => end_with(rt, NO_CONFIG, 2),
-        Err(Unprinted::TooMany) => end_with(rt, TOO_MANY, 2),
-        Err(Unprinted::Run(fault)) => end_with(rt, fault, fault.status()),
+        Err(Unprinted::NoKind) => end_fault(rt, NO_KIND, 2, None),
+        Err(Unprinted::NoConfig) => end_fault(rt, NO_CONFIG, 2, None),
+        Err(Unprinted::TooMany) => end_fault(rt, TOO_MANY, 2, None),
+        Err(Unprinted::Run(fault)) => {
+            let why = refused_number(rt.alloc(), config, fault);
+            end_fault(rt, fault, fault.status(), why)
+        }
     }
 }

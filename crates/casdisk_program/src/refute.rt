@@ -41,7 +41,9 @@ fn refuted<R: Files + Input + Print + AllocGlobal>(
     refutation_file: &str,
 ) -> Result<bool, RefuteFailure> {
     let mut trace = opened(rt, trace_file, why).map_err(of_trace)?;
-    let mut refutation = opened(rt, refutation_file, why).map_err(of_refutation)?;
+    let mut refutation = opened(rt, refutation_file, why)
+        .map_err(of_refutation)?
+        .whole();
     let done = refute_text(rt.alloc(), &mut trace, &mut refutation, &mut io::writer(rt));
     match done {
         Ok(answer) => Ok(answer),
@@ -52,7 +54,17 @@ fn refuted<R: Files + Input + Print + AllocGlobal>(
             Grammar::Trace,
             fault,
         ))),
-        Err(fault) => Err(RefuteFailure { fault, why: None }),
+        Err(RefuteFault::Refutation(fault)) => Err(of_refutation(failure_of(
+            rt.alloc(),
+            refutation_file,
+            &refutation,
+            Grammar::Slice,
+            fault,
+        ))),
+        Err(RefuteFault::Output) => Err(RefuteFailure {
+            fault: RefuteFault::Output,
+            why: None,
+        }),
     }
 }
 

@@ -4,8 +4,8 @@ use crate::failure::{end_fault, failure_of};
 use crate::grammar::Grammar;
 use crate::input::{Source, opened};
 use crate::kept::Kept;
-use crate::program::{cause_of, meaning_of};
-use crate::words::{ExplainedWords, Unmarked, WrongStepWords};
+use crate::unmarked::Watched;
+use crate::words::{ExplainedWords, WrongStepWords};
 use casdisk_texts::{Explained, RunFault};
 use command_line::SlotArea;
 use file_commands::{ExplainedSlots, SlotsFault, WrongStep, check_slots, explain_slots};
@@ -74,64 +74,31 @@ pub(crate) fn check_slots_file<R: Files + Input + Print + Eprint + AllocGlobal>(
     }
 }
 
-// Says what an explanation of steps says, with the unit that ended without a mark.
-fn tell_words<R: Print>(
-    rt: &R,
-    explained: Explained,
-    unmarked: Option<Unmarked>,
-) -> Result<(), io::Error> {
-    rt.println(ExplainedWords {
-        explained,
-        unmarked,
-    })
-}
-
-// Says what is wrong with the steps of a history, in words.
-fn tell_steps<R: Files + Input + Print + AllocGlobal>(
-    rt: &R,
-    file: &str,
-    explained: Explained,
-) -> Result<(), io::Error> {
-    let told = explained;
-    let unmarked = cause_of(rt, file, told);
-    tell_words(rt, explained, unmarked)
-}
-
 // Says what is wrong with how a history uses slots from this block on, in words.
 fn tell_wrong<R: Print>(rt: &R, first: u64, step: WrongStep) -> Result<(), io::Error> {
     rt.println(WrongStepWords { first, step })
 }
 
 // Says what is wrong with a history, in words.
-fn tell_explained<R: Files + Input + Print + AllocGlobal>(
+fn tell_explained<R: Print, I: Read + Drop>(
     rt: &R,
     first: u64,
-    file: &str,
+    input: &Watched<I>,
     explained: ExplainedSlots,
 ) -> Result<(), io::Error> {
-    match explained {
-        ExplainedSlots::Legal => tell_steps(rt, file, Explained::Legal),
-        ExplainedSlots::BadAt(step) => tell_steps(rt, file, Explained::BadAt(step)),
-        ExplainedSlots::SlotsBadAt(step) => tell_wrong(rt, first, step),
-    }
+    let steps = match explained {
+        ExplainedSlots::Legal => Explained::Legal,
+        ExplainedSlots::BadAt(step) => Explained::BadAt(step),
+        ExplainedSlots::SlotsBadAt(step) => return tell_wrong(rt, first, step),
+    };
+    let unmarked = input.cause_of(steps);
+    rt.println(ExplainedWords {
+        explained: steps,
+        unmarked,
+    })
 }
 
-// Says why a history wasn't explained; of a configuration that is refused always what its number means.
-fn end_explained<R: Eprint>(rt: &R, fault: SlotsFault, why: Option<String>) -> u8 {
-    if why.is_none() {
-        if let SlotsFault::Run(run) = fault {
-            if let Some(meaning) = meaning_of(run) {
-                let _ = rt.eprintln(fault);
-                let _ = rt.eprintln(meaning);
-                return fault.status();
-            }
-        }
-    }
-    end_slots(rt, fault, why)
-}
-
-/// Explains a history and how it uses these slots, and gives the same statuses. Behind the words of a refused
-/// configuration it says what its number means.
+/// Explains a history and how it uses these slots, and gives the same statuses.
 pub(crate) fn explain_slots_file<R: Files + Input + Print + Eprint + AllocGlobal>(
     rt: &R,
     area: SlotArea,
@@ -140,11 +107,11 @@ pub(crate) fn explain_slots_file<R: Files + Input + Print + Eprint + AllocGlobal
 ) -> u8 {
     let alloc = rt.alloc();
     let mut input = match slots_input(rt, file, why) {
-        Ok(input) => input,
+        Ok(input) => Watched::new(alloc, input),
         Err(status) => return status,
     };
     match explain_slots(alloc, blocks_of(area), &mut input) {
-        Ok(explained) => match tell_explained(rt, area.first, file, explained) {
+        Ok(explained) => match tell_explained(rt, area.first, &input, explained) {
             Ok(()) => {
                 if explained == ExplainedSlots::Legal {
                     0
@@ -154,6 +121,6 @@ pub(crate) fn explain_slots_file<R: Files + Input + Print + Eprint + AllocGlobal
             }
             Err(_) => end_slots(rt, SlotsFault::Run(RunFault::Output), None),
         },
-        Err(fault) => end_explained(rt, fault, why_of(alloc, file, &input, fault)),
+        Err(fault) => end_slots(rt, fault, why_of(alloc, file, &input.source, fault)),
     }
 }

@@ -210,6 +210,24 @@ fn wrong_data(word: &[u8]) -> Option<Wrong>
     })
 }
 
+// What is wrong with a block as it lies in the volume.
+fn wrong_medium(word: &[u8]) -> Option<Wrong>
+    ensures { IfSome result (λ w. w.at ≤ length word.now) }
+{
+    if word == b"none".as_slice() {
+        return None;
+    }
+    wrong_block(word)
+}
+
+// Whether the word is the number of a refusal that a run prints.
+fn is_refusal(word: &[u8]) -> bool {
+    match read_u64(word) {
+        Some(number) => 1 <= number && number <= 10,
+        None => false,
+    }
+}
+
 // What is wrong with a status.
 fn wrong_status(form: Form, word: &[u8]) -> Option<Wrong>
     ensures { IfSome result (λ w. w.at ≤ length word.now) }
@@ -244,7 +262,8 @@ fn wrong_spelling(form: Form, word: &[u8]) -> Option<Wrong>
         Form::Number64 => wrong_number(form, word, None),
         Form::Entry => wrong_bytes(form, word, 64),
         Form::Completion => wrong_bytes(form, word, 16),
-        Form::Data => wrong_data(word),
+        Form::Data | Form::MoreData => wrong_data(word),
+        Form::Medium => wrong_medium(word),
         Form::Status => wrong_status(form, word),
         Form::Verdict | Form::PairVerdict => {
             if word == b"ok".as_slice() {
@@ -265,7 +284,11 @@ fn wrong_spelling(form: Form, word: &[u8]) -> Option<Wrong>
         | Form::Unknown
         | Form::Any
         | Form::Field
-        | Form::MoreFields => None,
+        | Form::MoreFields
+        | Form::Refutation
+        | Form::Lines
+        | Form::Part
+        | Form::Refusal => None,
     }
 }
 
@@ -286,6 +309,7 @@ fn wrong_name(form: Form, word: &[u8]) -> Option<Wrong>
         Form::Found => is_one(word, b"read", b"equal", b"differs", b"written"),
         Form::Mark => word == b"*".as_slice() || word == b"-".as_slice(),
         Form::Topic => is_one(word, b"contents", b"statuses", b"ignore", b"ignore"),
+        Form::Refusal => is_refusal(word),
         Form::Unknown => word == b"unknown".as_slice(),
         Form::Any => word == b"any".as_slice(),
         Form::Field | Form::MoreFields => {
@@ -303,7 +327,12 @@ fn wrong_name(form: Form, word: &[u8]) -> Option<Wrong>
         | Form::Data
         | Form::Verdict
         | Form::PairVerdict
-        | Form::Status => true,
+        | Form::Status
+        | Form::Refutation
+        | Form::Lines
+        | Form::Part
+        | Form::Medium
+        | Form::MoreData => true,
     };
     wrong_choice(form, chosen)
 }

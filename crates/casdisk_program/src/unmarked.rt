@@ -1,70 +1,176 @@
 //! Why a ticket owes no completion: a unit of it that ended without a mark.
 
-use crate::input::open;
-use crate::words::Unmarked;
-use history::{Entry, parse_line};
-use line_text::{Lines, NextLine};
-use std::rt::Files;
+ghost use Rattle.std.specs.Prelude.{◌<◌, IfSome, length};
 
-// The unit of this ticket that has no mark behind this entry, whose line has this number.
-fn unmarked_behind(
-    entry: &Entry,
-    number: u64,
+use crate::words::Unmarked;
+use broken_rules::Broken;
+use casdisk_texts::Explained;
+use history::{Entry, parse_line};
+use std::alloc::Global;
+use std::io::{Read, Result as IoResult};
+
+// A ticket, and its first unit that has no mark so far.
+#[derive(Clone, Copy)]
+struct OpenUnit {
     ticket: u64,
-    found: Option<Unmarked>,
-) -> Option<Unmarked> {
-    match entry {
-        Entry::Grant(grant) => {
-            if grant.ticket == ticket && found.is_none() {
-                return Some(Unmarked {
-                    unit: grant.unit,
-                    line: number,
-                });
-            }
-            found
+    unmarked: Unmarked,
+}
+
+// A completion of a ticket that has such a unit, by its line.
+#[derive(Clone, Copy)]
+struct EarlyPost {
+    line: u64,
+    open: OpenUnit,
+}
+
+// Watches the lines of a history, up to the first completion of a ticket that has a unit without a mark.
+#[derive(Drop)]
+struct Watcher {
+    alloc: Global,
+    // what was read of a line
+    line: Vec<u8>,
+    lines: u64,
+    open: Vec<OpenUnit>,
+    early: Option<EarlyPost>,
+    // whether a growth was refused; then nothing is known
+    lost: bool,
+}
+
+// Where the unit of this ticket stands.
+fn place_of(open: &[OpenUnit], ticket: u64) -> Option<usize>
+    ensures { IfSome result (λ at. at < length open.now) }
+{
+    for at in 0..open.len() {
+        if open[at].ticket == ticket {
+            return Some(at);
         }
-        Entry::Block(block) => match found {
-            Some(unmarked) => {
-                if block.ticket != ticket || block.unit != unmarked.unit {
-                    return found;
-                }
-                if block.effect {
-                    return None;
-                }
-                Some(Unmarked {
-                    unit: unmarked.unit,
-                    line: number,
-                })
+    }
+    None
+}
+
+impl Watcher {
+    fn new(alloc: Global) -> Watcher {
+        Watcher {
+            alloc,
+            line: Vec::new(alloc),
+            lines: 0,
+            open: Vec::new(alloc),
+            early: None,
+            lost: false,
+        }
+    }
+
+    // A unit begins.
+    fn begin(&mut self, ticket: u64, unit: u64) {
+        if place_of(self.open.as_slice(), ticket).is_some() {
+            return;
+        }
+        let line = self.lines;
+        let unmarked = Unmarked { unit, line };
+        if self.open.push(OpenUnit { ticket, unmarked }).is_err() {
+            self.lost = true;
+        }
+    }
+
+    // A block of a unit is made, which may mark it.
+    fn make(&mut self, ticket: u64, unit: u64, effect: bool) {
+        let Some(at) = place_of(self.open.as_slice(), ticket) else {
+            return;
+        };
+        if self.open[at].unmarked.unit != unit {
+            return;
+        }
+        if effect {
+            self.open.swap_remove(at);
+        } else {
+            self.open[at].unmarked.line = self.lines;
+        }
+    }
+
+    // A ticket is answered.
+    fn answer(&mut self, ticket: u64) {
+        let Some(at) = place_of(self.open.as_slice(), ticket) else {
+            return;
+        };
+        self.early = Some(EarlyPost {
+            line: self.lines,
+            open: self.open[at],
+        });
+    }
+
+    // Takes the line that was read.
+    fn take_line(&mut self) {
+        self.lines = self.lines.saturating_add(1);
+        // (other lines are none of a unit)
+        let Ok(entry) = parse_line(self.alloc, self.line.as_slice()) else {
+            return;
+        };
+        match entry {
+            Entry::Grant(grant) => self.begin(grant.ticket, grant.unit),
+            Entry::Block(block) => self.make(block.ticket, block.unit, block.effect),
+            Entry::Post(post) => self.answer(post.ticket),
+            Entry::Publish(_) | Entry::Fetch(_) | Entry::Reap(_) => {}
+        }
+    }
+
+    // Watches these bytes.
+    fn watch(&mut self, bytes: &[u8]) {
+        for byte in bytes {
+            if self.lost || self.early.is_some() {
+                return;
             }
-            None => None,
-        },
-        Entry::Publish(_) | Entry::Fetch(_) | Entry::Post(_) | Entry::Reap(_) => found,
+            if *byte == b'\n' {
+                self.take_line();
+                self.line.clear();
+            } else if self.line.push(*byte).is_err() {
+                self.lost = true;
+            }
+        }
+    }
+
+    // The unit without a mark for which the ticket of the first bad step owes no completion.
+    fn cause_of(&self, explained: Explained) -> Option<Unmarked> {
+        let Explained::BadAt(step) = explained else {
+            return None;
+        };
+        let Broken::NothingOwed { ticket } = step.broken else {
+            return None;
+        };
+        let early = self.early?;
+        if early.open.ticket == ticket && early.line == step.place.saturating_add(1) {
+            Some(early.open.unmarked)
+        } else {
+            None
+        }
     }
 }
 
-/// Reads a file of entries once more, up to this line, and gives the first unit of this ticket that ended without a
-/// mark. None where it has no such unit, and where nothing can be read again, as standard input.
-pub(crate) fn unmarked_unit<R: Files + Input + AllocGlobal>(
-    rt: &R,
-    file: &str,
-    ticket: u64,
-    last: u64,
-) -> Option<Unmarked> {
-    if file == "-" {
-        return None;
+/// A reader that watches the history that it gives: what comes from a pipe can't be read again. It gives what its
+/// source gives.
+#[derive(Drop)]
+pub(crate) struct Watched<R: Read + Drop> {
+    pub(crate) source: R,
+    watcher: Watcher,
+}
+
+impl<R: Read + Drop> Watched<R> {
+    pub(crate) fn new(alloc: Global, source: R) -> Watched<R> {
+        let watcher = Watcher::new(alloc);
+        Watched { source, watcher }
     }
-    let mut input = open(rt, file).ok()?;
-    let mut lines = Lines::new(rt.alloc()).ok()?;
-    let mut line = Vec::new(rt.alloc());
-    let mut found: Option<Unmarked> = None;
-    for number in 1..last {
-        let Ok(NextLine::Whole) = lines.next_line(&mut input, &mut line) else {
-            return None;
-        };
-        // (the configuration line is none of an entry)
-        if let Ok(entry) = parse_line(rt.alloc(), line.as_slice()) {
-            found = unmarked_behind(&entry, number, ticket, found);
-        }
+
+    /// The unit without a mark for which the ticket of the first bad step owes no completion.
+    pub(crate) fn cause_of(&self, explained: Explained) -> Option<Unmarked> {
+        self.watcher.cause_of(explained)
     }
-    found
+}
+
+impl<R: Read + Drop> Read for Watched<R> {
+    ghost remaining = { λ r. R.remaining r.source };
+
+    fn read(&mut self, buf: &mut [u8]) -> IoResult<usize> {
+        let count = self.source.read(buf)?;
+        self.watcher.watch(&buf[..count]);
+        Ok(count)
+    }
 }

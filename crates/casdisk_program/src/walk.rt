@@ -38,7 +38,7 @@ fn wrong_end(due: &[Form], at: usize) -> Wrong
     ensures { result.at ≡ at }
 {
     let cause = match due.first() {
-        None | Some(Form::More) | Some(Form::MoreFields) => Cause::Unknown,
+        None | Some(Form::More) | Some(Form::MoreFields) | Some(Form::MoreData) => Cause::Unknown,
         Some(form) => Cause::Ends(*form),
     };
     Wrong { at, cause }
@@ -58,10 +58,10 @@ fn wrong_first(grammar: Grammar, word: &[u8]) -> Option<Wrong>
     if behind_first(grammar, word).is_some() {
         return None;
     }
-    let cause = if grammar == Grammar::Configuration {
-        Cause::NoWord(due)
-    } else {
+    let cause = if due == Form::Kind {
         Cause::NoKind
+    } else {
+        Cause::NoWord(due)
     };
     Some(Wrong { at: 0, cause })
 }

@@ -84,11 +84,11 @@ pub by_command : (words : List Text) (name : Text) (rows : List Row) → subcomm
     → (a : Asked) → AsksBy name rows a → Asks words a
 by_command words name rows e (Asked.Run shown flush why file) h = (name, rows, e, h)
 by_command words name rows e (Asked.Check follow area quiet why file) h = (name, rows, e, h)
-by_command words name rows e (Asked.Explain area why file) h = (name, rows, e, h)
+by_command words name rows e (Asked.Explain follow area why file) h = (name, rows, e, h)
 by_command words name rows e (Asked.Certify delayed why trace history) h = (name, rows, e, h)
 by_command words name rows e (Asked.Refute why trace refutation) h = (name, rows, e, h)
 by_command words name rows e (Asked.Observe witness refutation steps why trace) h = (name, rows, e, h)
-by_command words name rows e (Asked.Tell color file) h = (name, rows, e, h)
+by_command words name rows e (Asked.Tell color why file) h = (name, rows, e, h)
 by_command words name rows e (Asked.Draw from to blocks area trace why file) h = (name, rows, e, h)
 by_command words name rows e (Asked.Random seed lines config like) h = (name, rows, e, h)
 by_command words name rows e (Asked.Shrink why script) h = (name, rows, e, h)

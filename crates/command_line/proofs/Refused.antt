@@ -82,11 +82,11 @@ module _ (words : List Text) (e : Error) (none : are_words_taken words ≡ true 
       (not_true (are_words_taken words) (kind_of e ≡ ErrorKind.OutOfMemory) none (shown _ h)) kinds
   by_showing (Asked.Run shown flush why file) h = absurd h
   by_showing (Asked.Check follow area quiet why file) h = absurd h
-  by_showing (Asked.Explain area why file) h = absurd h
+  by_showing (Asked.Explain follow area why file) h = absurd h
   by_showing (Asked.Certify delayed why trace history) h = absurd h
   by_showing (Asked.Refute why trace refutation) h = absurd h
   by_showing (Asked.Observe witness refutation steps why trace) h = absurd h
-  by_showing (Asked.Tell color file) h = absurd h
+  by_showing (Asked.Tell color why file) h = absurd h
   by_showing (Asked.Draw from to blocks area trace why file) h = absurd h
   by_showing (Asked.Random seed lines config like) h = absurd h
   by_showing (Asked.Shrink why script) h = absurd h

@@ -1,6 +1,6 @@
 -- What a command line asks for.
-use Rattle.std.specs.Prelude.{Bool, List, None, Ok, Option, Some, [], bytes_eq, codes, false, is_some, nat_le}
-use Rattle.std.specs.Prelude.{option_map, true, unwrap_or, ◌&&◌, ◌-◌, ◌^◌, ◌≡◌, ◌≢◌, ◌∷◌, ◌⊎◌, ℕ}
+use Rattle.std.specs.Prelude.{Bool, List, None, Ok, Option, Some, [], bytes_eq, codes, false, if◌then◌else◌, is_some}
+use Rattle.std.specs.Prelude.{nat_le, option_map, true, unwrap_or, ◌&&◌, ◌-◌, ◌^◌, ◌≡◌, ◌≢◌, ◌∷◌, ◌⊎◌, ℕ}
 use Rattle.std.specs.Borrow.{Bor}
 use Rattle.std.specs.Str.Parse.{ParsesUnsigned}
 use Rattle.std.specs.declared.num.ParseIntError.{ParseIntError}
@@ -11,6 +11,8 @@ use Rattle.race_numbers.specs.Races.{usage_of}
 use Rattle.race_numbers.specs.declared.race.Race.{Race}
 use Rattle.command_line.specs.CommandLine.{faults_in, are_words_taken, subcommand_in}
 use Rattle.command_line.specs.declared.request.Asked.{Asked}
+use Rattle.command_line.specs.declared.request.ColorChoice.{ColorChoice}
+use Rattle.command_line.specs.declared.request.ColorChoice.TheVariants.{Always, Auto, Never}
 use Rattle.command_line.specs.declared.request.Shown.{Shown}
 use Rattle.command_line.specs.declared.request.SlotArea.{SlotArea}
 use Rattle.command_line.specs.declared.request.UsageFault.{UsageFault}
@@ -98,9 +100,12 @@ pub record SaysCheck (rows : List Row) (follow : Bool) (area : Option SlotArea) 
   pub reason : SaysFlag (codes "why") rows why
   pub reads : SaysText (codes "FILE") rows file
 
--- what the options of `explain` say
-pub record SaysExplain (rows : List Row) (area : Option SlotArea) (why : Bool) (file : Text) : Type 0 where
+-- what the options of `explain` say; it doesn't follow where there is an area
+pub record SaysExplain (rows : List Row) (follow : Bool) (area : Option SlotArea) (why : Bool) (file : Text)
+    : Type 0 where
+  pub follows : SaysFlag (codes "follow") rows follow
   pub slots : SaysArea rows area
+  pub one_of_both : (follow && is_some area) ≡ false
   pub reason : SaysFlag (codes "why") rows why
   pub reads : SaysText (codes "FILE") rows file
 
@@ -120,9 +125,23 @@ pub record SaysObserve (rows : List Row) (witness refutation : Option (Bor Text)
   pub reason : SaysFlag (codes "why") rows why
   pub saw : SaysText (codes "TRACE") rows trace
 
+-- when lines are coloured, by a word for that
+abbrev pub color_in : Text → Option ColorChoice
+color_in word =
+    if bytes_eq word (codes "auto") then Some Auto
+    else if bytes_eq word (codes "always") then Some Always
+    else if bytes_eq word (codes "never") then Some Never
+    else None
+
+-- when lines are coloured, by the word of an option, which may be left out
+abbrev pub color_asked : Option Text → Option ColorChoice
+color_asked None = Some Auto
+color_asked (Some word) = color_in word
+
 -- what the options of `tell` say
-pub record SaysTell (rows : List Row) (color : Bool) (file : Text) : Type 0 where
-  pub colors : SaysFlag (codes "color") rows color
+pub record SaysTell (rows : List Row) (color : ColorChoice) (why : Bool) (file : Text) : Type 0 where
+  pub colors : color_asked (first_of (codes "color") rows) ≡ Some color
+  pub reason : SaysFlag (codes "why") rows why
   pub reads : SaysText (codes "FILE") rows file
 
 -- whether there is a step from the first of these places to the last, counted from 1, where both may be left out
@@ -187,7 +206,8 @@ abbrev pub AsksBy : Text → List Row → Asked → Type 0
 AsksBy name rows (Asked.Run shown flush why file) = (name ≡ codes "run") × SaysRun rows shown flush why file.now
 AsksBy name rows (Asked.Check follow area quiet why file) =
     (name ≡ codes "check") × SaysCheck rows follow area quiet why file.now
-AsksBy name rows (Asked.Explain area why file) = (name ≡ codes "explain") × SaysExplain rows area why file.now
+AsksBy name rows (Asked.Explain follow area why file) =
+    (name ≡ codes "explain") × SaysExplain rows follow area why file.now
 AsksBy name rows (Asked.Certify delayed why trace history) =
     (name ≡ codes "certify") × SaysFlag (codes "delayed") rows delayed
     × SaysBeside (codes "HISTORY") rows why trace.now history.now
@@ -195,7 +215,7 @@ AsksBy name rows (Asked.Refute why trace refutation) =
     (name ≡ codes "refute") × SaysBeside (codes "REFUTATION") rows why trace.now refutation.now
 AsksBy name rows (Asked.Observe witness refutation steps why trace) =
     (name ≡ codes "observe") × SaysObserve rows witness refutation steps why trace.now
-AsksBy name rows (Asked.Tell color file) = (name ≡ codes "tell") × SaysTell rows color file.now
+AsksBy name rows (Asked.Tell color why file) = (name ≡ codes "tell") × SaysTell rows color why file.now
 AsksBy name rows (Asked.Draw from to blocks area trace why file) =
     (name ≡ codes "draw") × SaysDraw rows from to blocks area trace why file.now
 AsksBy name rows (Asked.Random seed lines config like) =
@@ -259,6 +279,10 @@ IsNoArea rows =
 abbrev pub FollowsArea : List Row → Type 0
 FollowsArea rows = (a : SlotArea) × SaysArea rows (Some a) × SaysFlag (codes "follow") rows true
 
+-- another word than those there are says when lines are coloured
+abbrev pub IsNoColor : List Row → Type 0
+IsNoColor rows = color_asked (first_of (codes "color") rows) ≡ None
+
 -- a range of steps is named that has none
 abbrev pub IsNoRange : List Row → Type 0
 IsNoRange rows =
@@ -297,11 +321,11 @@ abbrev pub AskNothing : Text → List Row → Type 0
 AskNothing name rows =
     ((name ≡ codes "run") × (IsNoFile rows ⊎ IsNotShown rows))
     ⊎ ((name ≡ codes "check") × (IsNoFile rows ⊎ IsNoArea rows ⊎ FollowsArea rows))
-    ⊎ ((name ≡ codes "explain") × (IsNoFile rows ⊎ IsNoArea rows))
+    ⊎ ((name ≡ codes "explain") × (IsNoFile rows ⊎ IsNoArea rows ⊎ FollowsArea rows))
     ⊎ ((name ≡ codes "race") × IsNoRace rows)
     ⊎ ((name ≡ codes "certify") × AreNoInputs (codes "HISTORY") rows)
     ⊎ ((name ≡ codes "observe") × IsNoSearch rows)
-    ⊎ ((name ≡ codes "tell") × IsNoFile rows)
+    ⊎ ((name ≡ codes "tell") × (IsNoFile rows ⊎ IsNoColor rows))
     ⊎ ((name ≡ codes "draw") × (IsNoFile rows ⊎ IsNoArea rows ⊎ IsNoRange rows ⊎ IsOneInput rows))
     ⊎ ((name ≡ codes "random") × IsNoRandom rows)
     ⊎ ((name ≡ codes "shrink") × IsNoScript rows)

@@ -65,8 +65,8 @@ check_app =
 -- the command `explain` with its options
 abbrev pub explain_app : App
 explain_app =
-    with_rule (with_rule (with_rule (new_app (codes "explain")) area_rule) (flag_rule (codes "why")))
-    (input_rule (codes "FILE"))
+    with_rule (with_rule (with_rule (with_rule (new_app (codes "explain")) (flag_rule (codes "follow"))) area_rule)
+    (flag_rule (codes "why"))) (input_rule (codes "FILE"))
 
 -- a command with the numbers of a race
 abbrev pub with_race_rules : App → App
@@ -109,7 +109,9 @@ observe_app =
 
 -- the command `tell` with its options
 abbrev pub tell_app : App
-tell_app = with_rule (with_rule (new_app (codes "tell")) (flag_rule (codes "color"))) (input_rule (codes "FILE"))
+tell_app =
+    with_rule (with_rule (with_rule (new_app (codes "tell")) (text_rule (codes "color"))) (flag_rule (codes "why")))
+    (input_rule (codes "FILE"))
 
 -- a command with the range of what is drawn
 abbrev pub with_range_rules : App → App
@@ -137,10 +139,10 @@ abbrev pub shrink_app : App
 shrink_app =
     with_rule (with_rule (new_app (codes "shrink")) (flag_rule (codes "why"))) (input_rule (codes "SCRIPT"))
 
--- the program, with a version, of which one command has to be named
+-- the program, with a version, of which one command has to be named; without any word it shows its help
 abbrev pub top_app : App
 top_app = let a = new_app (codes "casdisk") in
-    record a { top = record a.top { has_version = true; subcommand_required = true } }
+    record a { top = record a.top { has_version = true; arg_required_else_help = true; subcommand_required = true } }
 
 -- the whole program
 abbrev pub casdisk_app : App

@@ -13,6 +13,17 @@ use std::alloc::Global;
 const NO_AREA: &str =
     "error: '--slots' is the number of a block, and then how many blocks, below 4294967296";
 
+// Why these words say no area, with the one that is too large.
+fn no_area(alloc: Global, words: &[&str]) -> UsageFault {
+    let [_first, count] = words else {
+        return text_of(alloc, NO_AREA);
+    };
+    match format!(in alloc; "{NO_AREA}: COUNT is {count}") {
+        Ok(text) => UsageFault::Text(text),
+        Err(_) => UsageFault::NoMemory,
+    }
+}
+
 // The area that these words say.
 fn area_of(words: &[&str]) -> Option<SlotArea>
     ensures says { IfSome result (IsAreaOf (map (λ v. v.now) words.now)) }
@@ -45,6 +56,6 @@ pub(crate) fn area_asked(
     };
     match area_of(words) {
         Some(area) => Ok(Some(area)),
-        None => Err(text_of(alloc, NO_AREA)),
+        None => Err(no_area(alloc, words)),
     }
 }

@@ -16,6 +16,8 @@ const FOLLOW: &str = "Answer at the first bad step or bad line, and read no furt
 
 const SLOTS: &str = "Check the discipline of slots too, on COUNT blocks from block FIRST on";
 
+const FOLLOWS_AREA: &str = "error: '--slots' and '--follow' exclude each other";
+
 const ABOUT_CHECK: &str = "\
 Checks a history: prints 'legal', or 'bad at K' with its first bad line, from 1 behind the configuration";
 
@@ -49,6 +51,7 @@ pub(crate) fn explain_command<'a>(alloc: Global) -> Result<Command<'a>, AllocErr
     let command = Command::new(alloc, "explain")
         .about(ABOUT_EXPLAIN)
         .after_help(ABOUT_HISTORIES);
+    let command = with(alloc, command, "follow", Flag, FOLLOW)?;
     let command = with(alloc, command, "slots", Area, SLOTS)?;
     let command = with(alloc, command, "why", Flag, WHY)?;
     with(alloc, command, "FILE", Input, HISTORY)
@@ -65,7 +68,7 @@ pub(crate) fn check_asked<'a>(
     let area = area_asked(alloc, matches)?;
     let follow = flag_asked(matches, "follow");
     if follow && area.is_some() {
-        return Err(text_of(alloc, "error: '--slots' and '--follow' exclude each other"));
+        return Err(text_of(alloc, FOLLOWS_AREA));
     }
     let file = text_needed(alloc, matches, "FILE", NO_FILE)?;
     Ok(Asked::Check {
@@ -86,8 +89,13 @@ pub(crate) fn explain_asked<'a>(
     ensures refuses { IfErr result (IsRefusedBy (codes "explain") (rows_of (found_of matches.now))) }
 {
     let area = area_asked(alloc, matches)?;
+    let follow = flag_asked(matches, "follow");
+    if area.is_some() && follow {
+        return Err(text_of(alloc, FOLLOWS_AREA));
+    }
     let file = text_needed(alloc, matches, "FILE", NO_FILE)?;
     Ok(Asked::Explain {
+        follow,
         area,
         why: flag_asked(matches, "why"),
         file,

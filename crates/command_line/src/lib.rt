@@ -17,5 +17,5 @@ mod shrinking;
 mod telling;
 mod usage;
 
-pub use crate::request::{Asked, Shown, SlotArea, UsageFault};
+pub use crate::request::{Asked, ColorChoice, Shown, SlotArea, UsageFault};
 pub use crate::usage::asked;

@@ -95,9 +95,9 @@ fn numbers_asked(matches: &ArgMatches<'_>) -> Option<(u64, u64, u64, u64, u64)>
     Some((hosts, workers, slots, rounds, queues))
 }
 
-// Why these are the numbers of no race; where it is asked why they have too many queues, in a second line.
-fn no_race(alloc: Global, usage: RaceUsage, why: bool, hosts: u64, queues: u64) -> UsageFault {
-    let text = if why && usage == RaceUsage::TooManyQueues {
+// Why these are the numbers of no race; of too many queues a second line says how many.
+fn no_race(alloc: Global, usage: RaceUsage, hosts: u64, queues: u64) -> UsageFault {
+    let text = if usage == RaceUsage::TooManyQueues {
         format!(in alloc;
             "{usage}\n{hosts} hosts with {queues} queues each: at most 16 queues in all"
         )
@@ -132,6 +132,6 @@ pub(crate) fn race_asked<'a>(
             quiet: flag_asked(matches, "quiet"),
             why: flag_asked(matches, "why"),
         }),
-        Err(usage) => Err(no_race(alloc, usage, flag_asked(matches, "why"), hosts, queues)),
+        Err(usage) => Err(no_race(alloc, usage, hosts, queues)),
     }
 }

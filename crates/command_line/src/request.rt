@@ -15,6 +15,15 @@ pub struct SlotArea {
     pub count: u32,
 }
 
+/// When lines are coloured.
+#[derive(Clone, Copy, Debug, PartialEq, Eq)]
+pub enum ColorChoice {
+    /// On a terminal, where `NO_COLOR` isn't set.
+    Auto,
+    Always,
+    Never,
+}
+
 /// What a run prints behind its configuration line.
 #[derive(Clone, Copy, Debug, PartialEq, Eq)]
 pub enum Shown {
@@ -45,8 +54,9 @@ pub enum Asked<'a> {
         file: &'a str,
     },
     /// To check the history in this file, and the discipline of an area of slots, and say what is wrong with its first
-    /// bad line.
+    /// bad line; where it follows, as it comes. It never follows where there is an area.
     Explain {
+        follow: bool,
         area: Option<SlotArea>,
         why: bool,
         file: &'a str,
@@ -75,7 +85,8 @@ pub enum Asked<'a> {
     },
     /// To tell the history in this file in words; where it colours, each line in the colour of its kind.
     Tell {
-        color: bool,
+        color: ColorChoice,
+        why: bool,
         file: &'a str,
     },
     /// To draw the steps of the history in this file from one place to another, where none is named from its first or

@@ -48,6 +48,7 @@ fn top_command<'a>(alloc: Global) -> Command<'a>
         .version("0.1.0")
         .about("An NVM Express controller in software, around the fused Compare and Write")
         .after_help(ABOUT_SCRIPTS)
+        .arg_required_else_help(true)
         .subcommand_required(true)
 }
 
@@ -104,6 +105,18 @@ fn command_asked<'a>(
     }
 }
 
+// The words of an error without a tip to pass an option as a value: whoever mistypes one would read a file of that
+// name.
+fn without_tip(alloc: Global, text: String) -> Result<String, AllocError> {
+    let Some((before, tip)) = text.as_str().split_once("\n\n  tip: to pass '--") else {
+        return Ok(text);
+    };
+    let Some((_, behind)) = tip.split_once("\n\n") else {
+        return Ok(text);
+    };
+    format!(in alloc; "{before}\n\n{behind}")
+}
+
 // What is answered to words of which clap makes this error: its text where they ask for help or for the version, and
 // else that it is one.
 fn untaken<'a>(alloc: Global, error: &Error) -> Result<Asked<'a>, UsageFault>
@@ -115,7 +128,10 @@ fn untaken<'a>(alloc: Global, error: &Error) -> Result<Asked<'a>, UsageFault>
         ErrorKind::DisplayHelp | ErrorKind::DisplayVersion => {
             Ok(Asked::Show(error.to_string(alloc)?))
         }
-        _ => Err(UsageFault::Text(error.to_string(alloc)?)),
+        _ => {
+            let text = error.to_string(alloc)?;
+            Err(UsageFault::Text(without_tip(alloc, text)?))
+        }
     }
 }
 

@@ -1,6 +1,6 @@
 -- What is said of a file that is drawn, from what was drawn.
 use Rattle.std.proofs.Common.{Bool, List, None, Option, Some, ap, ap₂, arith, false, is_none, length, refl, subst}
-use Rattle.std.proofs.Common.{true, ℕ, ◌∙◌, ◌≡◌, ◌≤◌}
+use Rattle.std.proofs.Common.{sym, true, ℕ, ◌∙◌, ◌≡◌, ◌≤◌}
 use Rattle.std.specs.Prelude.{Err, IfSome, Ok, Result, unwrap_or}
 use Rattle.std.specs.Io.KnownBytes.{IsAtEnd}
 use Rattle.std.proofs.KnownBytes.{Keeps-refl}
@@ -18,11 +18,13 @@ use Rattle.casdisk_texts.proofs.Answering.{history_then}
 use Rattle.history_check.specs.Kept.{CheckerRun}
 use Rattle.picture_shapes.specs.Picture.{PictureState}
 use Rattle.picture_svg.specs.Page.{picture_svg}
-use Rattle.picture_svg.specs.Drawing.{DrawsText, HasArea, IsDrawn, HasAreaByThen, IsTooLong, IsUndrawn, WritesDrawn}
-use Rattle.picture_svg.specs.Drawn.{HasDrawing, HasDrawn, end_of, has_no_slot, is_within, steps_drawn, steps_to}
+use Rattle.picture_svg.specs.Drawing.{DrawsText, HasArea, IsDrawn, HasAreaByThen, IsNoStep, IsTooLong, IsUndrawn}
+use Rattle.picture_svg.specs.Drawing.{WritesDrawn}
+use Rattle.picture_svg.specs.Drawn.{HasDrawing, HasDrawn, end_of, has_no_slot, has_step, is_within, steps_drawn}
+use Rattle.picture_svg.specs.Drawn.{steps_to}
 use Rattle.picture_svg.specs.declared.drawer.DrawOptions.{DrawOptions}
 use Rattle.picture_svg.specs.declared.fault.DrawFault.{DrawFault}
-use Rattle.picture_svg.specs.declared.fault.DrawFault.TheVariants.{Beyond, NoSlots, Run, TooLong}
+use Rattle.picture_svg.specs.declared.fault.DrawFault.TheVariants.{Beyond, NoSlots, NoStep, Run, TooLong}
 
 -- the last place, from what was judged
 ends : (c : ConfigNumbers) (past : Past) (bad : Option ℕ) (n : ℕ) → bad ≡ first_bad_of c past → n ≡ length past
@@ -39,6 +41,7 @@ drawing_in c o kept past config x n bad s slots within same h =
     record {
       slots = slots;
       within = within;
+      last = ends c past bad.place n k.judged.first.place k.judged.counted;
       steps = ap (steps_to o.from o.to) (ends c past bad.place n k.judged.first.place k.judged.counted);
       legal = ap is_none k.judged.first.place;
       words = k.words;
@@ -49,13 +52,14 @@ drawing_in c o kept past config x n bad s slots within same h =
 
 module _ (o : DrawOptions) (bad : Option ℕ) (n : ℕ) (s : PictureState) where
   drawn_in : (bytes : List ℕ) (answer : Bool) → HasHistory (λ c past. HasDrawing c o past bad n s) bytes
-      → steps_to o.from o.to (unwrap_or bad n) ≤ 10000 → answer ≡ is_none bad
+      → has_step o.from (unwrap_or bad n) ≡ true → steps_to o.from o.to (unwrap_or bad n) ≤ 10000 → answer ≡ is_none bad
       → HasHistory (λ c past. IsDrawn c o past answer (picture_svg s)) bytes
-  drawn_in bytes answer h few e =
+  drawn_in bytes answer h there few e =
       history_then (λ c past. HasDrawing c o past bad n s) (λ c past. IsDrawn c o past answer (picture_svg s))
       (Some bytes) (λ c past is.
       let few' : steps_drawn c o past ≤ 10000 = subst (λ k. k ≤ 10000) is.steps few in
       record {
+        there = sym (ap (has_step o.from) is.last) ∙ there;
         few = few';
         slots = is.slots;
         within = is.within;
@@ -70,16 +74,22 @@ module _ (o : DrawOptions) (bad : Option ℕ) (n : ℕ) (s : PictureState) where
       → DrawsText o result r t v x
   written (Ok answer) None t v x end some h w = (end, tt)
   written (Ok answer) (Some bytes) t v x end some h w =
-      (end, (picture_svg s, drawn_in bytes answer h w.0 w.1.0, w.1.1))
+      (end, (picture_svg s, drawn_in bytes answer h w.0 w.1 w.2.0, w.2.1))
   written (Err (Run Output)) None t v x end some h w = (end, tt)
   written (Err (Run Output)) (Some bytes) t v x end some h w =
-      (end, (is_none bad, picture_svg s, drawn_in bytes (is_none bad) h w.0 refl, w.1))
-  written (Err (Run NoMemory)) r t v x end some h w = ((some, tt, tt), w.1)
-  written (Err (Run (BadLine k))) r t v x end some h w = absurd w.1
-  written (Err (Run (BadConfig k))) r t v x end some h w = absurd w.1
-  written (Err (Run Input)) r t v x end some h w = absurd w.1
-  written (Err NoSlots) r t v x end some h w = absurd w.1
-  written (Err (Beyond k)) r t v x end some h w = absurd w.1
+      (end, (is_none bad, picture_svg s, drawn_in bytes (is_none bad) h w.0 w.1 refl, w.2))
+  written (Err (Run NoMemory)) r t v x end some h w = ((some, tt, tt), w.2)
+  written (Err (Run (BadLine k))) r t v x end some h w = absurd w.2
+  written (Err (Run (BadConfig k))) r t v x end some h w = absurd w.2
+  written (Err (Run Input)) r t v x end some h w = absurd w.2
+  written (Err NoSlots) r t v x end some h w = absurd w.2
+  written (Err (Beyond k)) r t v x end some h w = absurd w.2
+  written (Err (NoStep k l)) None t v x end some h w = (end, tt, w.3)
+  written (Err (NoStep k l)) (Some bytes) t v x end some h w =
+      let is = h.1.2 in
+      let none : IsNoStep h.1.0 o (file_of bytes).past k l =
+      record { first = w.0; end = w.1 ∙ is.last; behind = w.2; slots = is.slots; within = is.within } in
+      (end, (h.0, (h.1.0, h.1.1, none)), w.3)
   written (Err (TooLong k)) None t v x end some h w = (end, tt, w.2)
   written (Err (TooLong k)) (Some bytes) t v x end some h w =
       let is = h.1.2 in
@@ -123,3 +133,4 @@ undrawn o (Run NoMemory) r t v h = (h, Keeps-refl v)
 undrawn o NoSlots r t v h = (h, Keeps-refl v)
 undrawn o (Beyond n) r t v h = (h, Keeps-refl v)
 undrawn o (TooLong n) r t v h = absurd h
+undrawn o (NoStep n m) r t v h = absurd h

@@ -14,15 +14,16 @@ use Rattle.casdisk_texts.specs.declared.fault.RunFault.{RunFault}
 use Rattle.casdisk_texts.specs.declared.fault.RunFault.TheVariants.{BadLine, NoMemory, Output}
 use Rattle.picture_shapes.specs.Picture.{PictureState, picture_of}
 use Rattle.picture_svg.specs.Page.{picture_svg}
-use Rattle.picture_svg.specs.Drawn.{has_no_slot, is_within, steps_drawn, steps_to}
+use Rattle.picture_svg.specs.Drawn.{end_of, has_no_slot, has_step, is_within, steps_drawn, steps_to}
 use Rattle.picture_svg.specs.declared.drawer.DrawOptions.{DrawOptions}
 use Rattle.picture_svg.specs.declared.fault.DrawFault.{DrawFault}
-use Rattle.picture_svg.specs.declared.fault.DrawFault.TheVariants.{Beyond, NoSlots, Run, TooLong}
+use Rattle.picture_svg.specs.declared.fault.DrawFault.TheVariants.{Beyond, NoSlots, NoStep, Run, TooLong}
 
 -- The text is the picture of a history from one place to another, up to and with its first bad step, with some words
--- for that; there are at most 10,000 steps to draw; the volume has the area of slots, where there is one, which has a
--- block; and this is whether the history is legal.
+-- for that; it has the first of these steps, if that isn't 1, and at most 10,000 to draw; the volume has the area of
+-- slots, where there is one, which has a block; and this is whether the history is legal.
 pub record IsDrawn (c : ConfigNumbers) (o : DrawOptions) (past : Past) (answer : Bool) (text : List ℕ) : Type 0 where
+  pub there : has_step o.from (end_of c past) ≡ true
   pub few : steps_drawn c o past ≤ 10000
   pub slots : has_no_slot o.aspect.lanes.slots ≡ false
   pub within : is_within o.aspect.lanes.slots c.blocks ≡ true
@@ -34,6 +35,14 @@ pub record IsDrawn (c : ConfigNumbers) (o : DrawOptions) (past : Past) (answer :
 pub record IsTooLong (c : ConfigNumbers) (o : DrawOptions) (past : Past) (steps : ℕ) : Type 0 where
   pub count : steps ≡ steps_drawn c o past
   pub many : 10000 < steps
+  pub slots : has_no_slot o.aspect.lanes.slots ≡ false
+  pub within : is_within o.aspect.lanes.slots c.blocks ≡ true
+
+-- The history of a file ends before the first step to draw; an area of slots has a block, and the volume has the area.
+pub record IsNoStep (c : ConfigNumbers) (o : DrawOptions) (past : Past) (from last : ℕ) : Type 0 where
+  pub first : from ≡ o.from
+  pub end : last ≡ end_of c past
+  pub behind : has_step from last ≡ false
   pub slots : has_no_slot o.aspect.lanes.slots ≡ false
   pub within : is_within o.aspect.lanes.slots c.blocks ≡ true
 
@@ -63,6 +72,7 @@ IsUndrawn o NoSlots input left = (has_no_slot o.aspect.lanes.slots ≡ true) × 
 IsUndrawn o (Beyond blocks) input left =
     (has_no_slot o.aspect.lanes.slots ≡ false) × IfSome input (IsBeyond o blocks)
 IsUndrawn o (TooLong steps) input left = ⊥
+IsUndrawn o (NoStep from last) input left = ⊥
 
 -- By what a drawing of a file answered: its whole picture, and the reader at its end; nothing; or a beginning of it.
 abbrev pub DrawsText : DrawOptions → Result Bool DrawFault → (input left old new : Option (List ℕ)) → Type 0
@@ -74,12 +84,15 @@ DrawsText o (Err (Run Output)) input left old new =
     × HasHistory (λ c past. IsDrawn c o past answer text) bytes × AppendsFront old new text)
 DrawsText o (Err (TooLong steps)) input left old new =
     IsAtEnd left × IfSome input (HasHistory (λ c past. IsTooLong c o past steps)) × Keeps old new
+DrawsText o (Err (NoStep from last)) input left old new =
+    IsAtEnd left × IfSome input (HasHistory (λ c past. IsNoStep c o past from last)) × Keeps old new
 DrawsText o (Err fault) input left old new = IsUndrawn o fault input left × Keeps old new
 
 -- the status with which the program ends
 abbrev pub draw_status : DrawFault → ℕ
 draw_status (Run fault) = exit_status fault
 draw_status (TooLong steps) = 2
+draw_status (NoStep from last) = 2
 draw_status NoSlots = 2
 draw_status (Beyond blocks) = 2
 
@@ -92,10 +105,13 @@ WritesPicture s legal (Err (Run Output)) old new = AppendsFront old new (picture
 WritesPicture s legal (Err (Run NoMemory)) old new = Keeps old new
 WritesPicture s legal (Err fault) old new = ⊥
 
--- what was drawn was written, or there are too many steps
+-- what was drawn was written, or there are too many steps, or not the first of them
 abbrev pub WritesDrawn : DrawOptions → Option ℕ → ℕ → PictureState → Result Bool DrawFault →
     (old new : Option (List ℕ)) → Type 0
 WritesDrawn o bad count s (Err (TooLong steps)) old new =
     (steps ≡ steps_to o.from o.to (unwrap_or bad count)) × (10000 < steps) × Keeps old new
+WritesDrawn o bad count s (Err (NoStep from last)) old new =
+    (from ≡ o.from) × (last ≡ unwrap_or bad count) × (has_step from last ≡ false) × Keeps old new
 WritesDrawn o bad count s result old new =
-    (steps_to o.from o.to (unwrap_or bad count) ≤ 10000) × WritesPicture s (is_none bad) result old new
+    (has_step o.from (unwrap_or bad count) ≡ true) × (steps_to o.from o.to (unwrap_or bad count) ≤ 10000)
+    × WritesPicture s (is_none bad) result old new

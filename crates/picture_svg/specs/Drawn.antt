@@ -1,6 +1,6 @@
 -- What was drawn of a list of entries.
 use Rattle.std.specs.Prelude.{Bool, List, None, Option, Some, false, if◌then◌else◌, is_none, length, min, nat_le}
-use Rattle.std.specs.Prelude.{nat_lt, true, unwrap_or, ℕ, ◌+◌, ◌-◌, ◌==◌, ◌≡◌, ◌≤◌}
+use Rattle.std.specs.Prelude.{nat_lt, true, unwrap_or, ℕ, ◌+◌, ◌-◌, ◌==◌, ◌||◌, ◌≡◌, ◌≤◌}
 use Rattle.nvme_model.specs.FirstBad.{first_bad_of}
 use Rattle.nvme_model.specs.History.{Past}
 use Rattle.nvme_model.specs.declared.array.Range.{Range}
@@ -25,6 +25,10 @@ is_within (Some slots) blocks = nat_le (slots.slba + slots.blocks) blocks
 -- how many places there are from `from` to `to` that aren't behind this one
 abbrev pub steps_to : (from to place : ℕ) → ℕ
 steps_to from to place = min place to - (from - 1)
+
+-- a picture may begin with this step, where this is the last that there is
+abbrev pub has_step : (from last : ℕ) → Bool
+has_step from last = nat_le from 1 || nat_le from last
 
 -- The last place of a history that is drawn: that of its first bad entry, or else of its last one.
 abbrev pub end_of : ConfigNumbers → Past → ℕ
@@ -54,6 +58,7 @@ pub record HasDrawing (c : ConfigNumbers) (o : DrawOptions) (past : Past) (bad :
     (picture : PictureState) : Type 0 where
   pub slots : has_no_slot o.aspect.lanes.slots ≡ false
   pub within : is_within o.aspect.lanes.slots c.blocks ≡ true
+  pub last : unwrap_or bad count ≡ end_of c past
   pub steps : steps_to o.from o.to (unwrap_or bad count) ≡ steps_drawn c o past
   pub legal : is_none bad ≡ is_none (first_bad_of c past)
   pub words : List ℕ

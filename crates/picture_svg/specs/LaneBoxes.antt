@@ -9,19 +9,19 @@ use Rattle.picture_svg.specs.declared.boxes.Frame.{Frame}
 
 -- the character of a hexadecimal digit
 abbrev pub hex_digit : ℕ → ℕ
-hex_digit n = if nat_lt n 10 then 48 + n else 87 + n
+hex_digit n = if nat_lt n 10 then 48 + n else 55 + n
 
 -- two digits
 abbrev pub two_digits : ℕ → List ℕ
 two_digits n = hex_digit (n / 16) ∷ hex_digit (n % 16) ∷ []
 
--- the hue of a value, in degrees
+-- the hue of a value, in degrees: from yellow to violet, so that none is the red of a fault
 abbrev pub value_hue : ℕ → ℕ
-value_hue digits = digits * 45 / 32
+value_hue digits = 60 + digits * 15 / 16
 
--- the hue of a host, in degrees: hosts with numbers that are near have hues that aren't
+-- the hue of a host, in degrees, in the same range: hosts with numbers that are near have hues that aren't
 abbrev pub host_hue : ℕ → ℕ
-host_hue host = host * 137 % 360
+host_hue host = 60 + host * 137 % 240
 
 -- the beginning of a box of a class and a hue
 abbrev pub hue_svg : List ℕ → ℕ → List ℕ

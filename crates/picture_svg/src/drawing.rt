@@ -1,6 +1,8 @@
 //! Files of entries that are drawn.
 
+ghost use Rattle.std.specs.Prelude.{◌≡◌};
 ghost use Rattle.picture_svg.specs.Drawing.{DrawsText, WritesDrawn, WritesPicture};
+ghost use Rattle.picture_svg.specs.Drawn.{has_step};
 
 use crate::drawer::{DrawOptions, Drawer, MOST_STEPS};
 use crate::fault::DrawFault;
@@ -30,7 +32,14 @@ fn write_picture<W: Write>(
     }
 }
 
-// Writes what was drawn, where there aren't too many steps, and says whether the history is legal.
+// Whether a picture may begin with this step, where this is the last that there is.
+fn has_step(from: u64, last: u64) -> bool
+    ensures value { result ≡ has_step from last }
+{
+    from <= 1 || from <= last
+}
+
+// Writes what was drawn, where there are steps, and not too many, and says whether the history is legal.
 fn write_drawn<W: Write>(
     alloc: Global,
     options: &DrawOptions,
@@ -41,6 +50,10 @@ fn write_drawn<W: Write>(
         (W.contents writer.old) (W.contents writer.new) }
 {
     let bad = drawer.judge.bad.place;
+    let last = bad.unwrap_or(drawer.judge.count);
+    if !has_step(options.from, last) {
+        return Err(DrawFault::NoStep(options.from, last));
+    }
     let steps = steps_of(options, bad, drawer.judge.count);
     if steps > MOST_STEPS {
         return Err(DrawFault::TooLong(steps));
@@ -55,9 +68,10 @@ fn write_drawn<W: Write>(
 /// # Errors
 ///
 /// `NoSlots` where there is an area of slots without a block, before anything is read; `Beyond` with the blocks of the
-/// volume, where the area goes beyond it, as soon as the configuration line is read; `TooLong` with the number of
-/// steps, where there are more than 10,000 to draw; `Run` with the faults of `check_text`. But for `Run(Output)`, which
-/// comes after a beginning of the text, nothing was written.
+/// volume, where the area goes beyond it, as soon as the configuration line is read; `NoStep` with the place of the
+/// first step to draw, where that isn't 1, and of the last that there is, which is before it; `TooLong` with the number
+/// of steps, where there are more than 10,000 to draw; `Run` with the faults of `check_text`. But for `Run(Output)`,
+/// which comes after a beginning of the text, nothing was written.
 pub fn draw_text<R: Read, W: Write>(
     alloc: Global,
     options: &DrawOptions,

@@ -15,6 +15,9 @@ pub enum DrawFault {
     /// There are more than 10,000 steps to draw, which is how many there are.
     #[error("too long to draw: {0} steps; give --from and --to")]
     TooLong(u64),
+    /// The picture would begin with this step, which isn't the first, and this is the last that there is.
+    #[error("there is no step {0} to draw: the last is step {1}")]
+    NoStep(u64, u64),
     /// The area of slots has no block.
     #[error("there is no slot to draw: COUNT is 0")]
     NoSlots,
@@ -30,7 +33,10 @@ impl DrawFault {
     {
         match self {
             DrawFault::Run(fault) => fault.status(),
-            DrawFault::TooLong(_) | DrawFault::NoSlots | DrawFault::Beyond(_) => 2,
+            DrawFault::TooLong(_)
+            | DrawFault::NoStep(_, _)
+            | DrawFault::NoSlots
+            | DrawFault::Beyond(_) => 2,
         }
     }
 }

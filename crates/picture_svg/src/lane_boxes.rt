@@ -19,7 +19,7 @@ fn hex_digit(n: u8) -> u8
     requires { n < 16 }
     ensures value { result ≡ hex_digit n }
 {
-    if n < 10 { 48 + n } else { 87 + n }
+    if n < 10 { 48 + n } else { 55 + n }
 }
 
 /// Adds two digits.
@@ -29,18 +29,18 @@ pub(crate) fn push_digits(text: &mut Vec<u8>, n: u8) -> Result<(), NoMemory>
     text.extend_from_slice(&[hex_digit(n / 16), hex_digit(n % 16)])
 }
 
-/// The hue of a value, in degrees.
+/// The hue of a value, in degrees: from yellow to violet, so that none is the red of a fault.
 pub(crate) fn value_hue(digits: u8) -> u64
     ensures value { result ≡ value_hue digits }
 {
-    u64::from(digits) * 45 / 32
+    60 + u64::from(digits) * 15 / 16
 }
 
-/// The hue of a host, in degrees.
+/// The hue of a host, in degrees, in the same range.
 pub(crate) fn host_hue(host: u32) -> u64
     ensures value { result ≡ host_hue host }
 {
-    u64::from(host) * 137 % 360
+    60 + u64::from(host) * 137 % 240
 }
 
 // The beginning of a box of a class and a hue.

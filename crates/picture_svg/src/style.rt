@@ -9,10 +9,10 @@ pub(crate) const STYLE: &[u8] = b"<style>text{font:12px monospace;fill:#1f2933}
 .w{fill:#d5efd9;stroke:#3f8f52}.f{fill:url(#q);stroke:#c62f3b}.x{fill:url(#p);stroke:#c62f3b}
 .m{stroke:#b35c00;stroke-dasharray:5 4}.s{font:bold 20px monospace;fill:#b35c00}
 .r{stroke:#c62f3b;stroke-width:3}.y{fill:url(#p);fill-opacity:.5}.e{font-weight:bold;fill:#c62f3b}
-.o{fill:#f9d7d9}.i{stroke:#c62f3b;stroke-width:2;stroke-opacity:.45}.j{stroke:#c62f3b;stroke-opacity:.35}
+.o{fill:#eba0a6}.i{stroke:#c62f3b;stroke-width:2;stroke-opacity:.45}.j{stroke:#c62f3b;stroke-opacity:.35}
 @media(prefers-color-scheme:dark){text{fill:#e4e7eb}.z{fill:#12181f}.k{fill:#9aa5b1}.g{stroke:#52606d}
 .b{fill:#1c2b3d;stroke:#6f9fd8}.t{fill:#29476b}.c{fill:#12181f;stroke:#6f9fd8}.w{fill:#1d3d26;stroke:#5fb574}
-.s{fill:#f0a04b}.m{stroke:#f0a04b}.e{fill:#ff8a8f}.o{fill:#4a1f24}}
+.s{fill:#f0a04b}.m{stroke:#f0a04b}.e{fill:#ff8a8f}.o{fill:#8f434d}.i,.j{stroke:#ffb3b8}}
 </style>
 <defs><pattern id='p' width='8' height='8' patternUnits='userSpaceOnUse'><rect class='o' width='8' height='8'/>
 <path class='i' d='M-2 2L2 -2M0 8L8 0M6 10L10 6'/></pattern>
