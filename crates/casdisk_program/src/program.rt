@@ -18,7 +18,7 @@ use crate::shrinking::shrink_file;
 use crate::slots::{check_slots_file, explain_slots_file};
 use crate::tracing::trace_run;
 use crate::unmarked::Watched;
-use crate::words::ExplainedWords;
+use crate::words::{ExplainedWords, Unmarked};
 use casdisk_texts::{
     Explained, RunFault, check_text, explain_text, follow_explained, follow_text, run_script,
     tell_answer,
@@ -302,6 +302,22 @@ fn explained_status(explained: Explained) -> u8 {
     if explained == Explained::Legal { 0 } else { 1 }
 }
 
+// The place of the first bad step, where there is one.
+fn bad_place(explained: Explained) -> Option<u64> {
+    match explained {
+        Explained::Legal => None,
+        Explained::BadAt(step) => Some(step.place),
+    }
+}
+
+// Says on standard error which rule a step breaks; where that takes no words, the answer stands alone.
+fn tell_reason<R: Eprint>(rt: &R, explained: Explained, unmarked: Option<Unmarked>) {
+    let _ = rt.eprintln(ExplainedWords {
+        explained,
+        unmarked,
+    });
+}
+
 // Checks a history in the same way, and says behind the answer, on standard error, which rule its first bad step
 // breaks.
 fn check_why_file<R: Files + Clock + Input + Print + Eprint + AllocGlobal>(
@@ -321,18 +337,10 @@ fn check_why_file<R: Files + Clock + Input + Print + Eprint + AllocGlobal>(
             return Err(failure_of(rt.alloc(), file, read, Grammar::History, fault));
         }
     };
-    let place = match explained {
-        Explained::Legal => None,
-        Explained::BadAt(step) => Some(step.place),
-    };
-    tell_answer(place, &mut io::writer(rt))?;
-    if place.is_some() {
+    tell_answer(bad_place(explained), &mut io::writer(rt))?;
+    if explained != Explained::Legal {
         let unmarked = input.cause_of(explained);
-        // (where standard error takes no words, the answer stands alone)
-        let _ = rt.eprintln(ExplainedWords {
-            explained,
-            unmarked,
-        });
+        tell_reason(rt, explained, unmarked);
     }
     Ok(explained_status(explained))
 }

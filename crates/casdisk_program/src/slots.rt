@@ -5,7 +5,7 @@ use crate::grammar::Grammar;
 use crate::input::{Source, opened};
 use crate::kept::Kept;
 use crate::unmarked::Watched;
-use crate::words::{ExplainedWords, WrongStepWords};
+use crate::words::{ExplainedWords, Unmarked, WrongStepWords};
 use casdisk_texts::{Explained, RunFault};
 use command_line::SlotArea;
 use file_commands::{ExplainedSlots, SlotsFault, WrongStep, check_slots, explain_slots};
@@ -79,6 +79,29 @@ fn tell_wrong<R: Print>(rt: &R, first: u64, step: WrongStep) -> Result<(), io::E
     rt.println(WrongStepWords { first, step })
 }
 
+// Says what an explanation of steps says, with the unit that ended without a mark.
+fn tell_words<R: Print>(
+    rt: &R,
+    explained: Explained,
+    unmarked: Option<Unmarked>,
+) -> Result<(), io::Error> {
+    rt.println(ExplainedWords {
+        explained,
+        unmarked,
+    })
+}
+
+// Says what is wrong with the steps of a history, in words.
+fn tell_steps<R: Print, I: Read + Drop>(
+    rt: &R,
+    input: &Watched<I>,
+    explained: Explained,
+) -> Result<(), io::Error> {
+    let told = explained;
+    let unmarked = input.cause_of(told);
+    tell_words(rt, explained, unmarked)
+}
+
 // Says what is wrong with a history, in words.
 fn tell_explained<R: Print, I: Read + Drop>(
     rt: &R,
@@ -86,16 +109,11 @@ fn tell_explained<R: Print, I: Read + Drop>(
     input: &Watched<I>,
     explained: ExplainedSlots,
 ) -> Result<(), io::Error> {
-    let steps = match explained {
-        ExplainedSlots::Legal => Explained::Legal,
-        ExplainedSlots::BadAt(step) => Explained::BadAt(step),
-        ExplainedSlots::SlotsBadAt(step) => return tell_wrong(rt, first, step),
-    };
-    let unmarked = input.cause_of(steps);
-    rt.println(ExplainedWords {
-        explained: steps,
-        unmarked,
-    })
+    match explained {
+        ExplainedSlots::Legal => tell_steps(rt, input, Explained::Legal),
+        ExplainedSlots::BadAt(step) => tell_steps(rt, input, Explained::BadAt(step)),
+        ExplainedSlots::SlotsBadAt(step) => tell_wrong(rt, first, step),
+    }
 }
 
 /// Explains a history and how it uses these slots, and gives the same statuses.
