@@ -1,5 +1,8 @@
 //! The command `draw`.
 
+ghost use Rattle.std.specs.Prelude.{IfErr};
+ghost use Rattle.casdisk_program.specs.Kept.{ComparesKept};
+
 use crate::certify::{CertifyFailure, compared, end_certify, of_history, of_trace};
 use crate::failure::{end_failure, end_fault, failure_of};
 use crate::grammar::Grammar;
@@ -11,8 +14,9 @@ use command_line::SlotArea;
 use nvme_model::array::Range;
 use picture_shapes::{Aspect, LanesShown, Subject};
 use picture_svg::{DrawFault, DrawOptions, draw_text};
+use std::alloc::Global;
 use std::io;
-use std::io::{BufWriter, Read, Write};
+use std::io::{BufWriter, ErrorKind, Read, Write};
 use std::rt::Files;
 
 /// The lanes that are shown besides.
@@ -72,6 +76,15 @@ fn draw_input<R: Print + Eprint + AllocGlobal, I: Read + Drop>(
     }
 }
 
+// Why a text wasn't read whole: a refused growth is no fault of its file.
+fn read_fault(kind: ErrorKind) -> RunFault {
+    if kind == ErrorKind::OutOfMemory {
+        RunFault::NoMemory
+    } else {
+        RunFault::Input
+    }
+}
+
 // The whole text of a history.
 fn text_of<R: Files + Input + AllocGlobal>(
     rt: &R,
@@ -82,13 +95,44 @@ fn text_of<R: Files + Input + AllocGlobal>(
     let mut text: Vec<u8> = Vec::new(rt.alloc());
     match input.read_to_end(&mut text) {
         Ok(_) => Ok(text),
-        Err(_) => Err(of_history(failure_of(
+        Err(error) => Err(of_history(failure_of(
             rt.alloc(),
             file,
             &input,
             Grammar::History,
-            RunFault::Input,
+            read_fault(error.kind()),
         ))),
+    }
+}
+
+// Compares a history with a trace, and keeps what is said of that.
+fn kept_answer<T: Read + Drop>(
+    alloc: Global,
+    trace_file: &str,
+    trace: &mut Kept<T>,
+    file: &str,
+    history: &mut Kept<&[u8]>,
+    said: &mut Vec<u8>,
+) -> Result<bool, CertifyFailure>
+    ensures memory { IfErr result (λ f. ComparesKept f.fault) }
+{
+    let plain = Logged::AsSeen;
+    match compared(alloc, plain, trace_file, trace, file, history, said) {
+        Ok(answer) => Ok(answer),
+        Err(CertifyFailure { fault, why }) => Err(CertifyFailure {
+            fault: in_memory(fault),
+            why,
+        }),
+    }
+}
+
+// The same fault of a comparison whose answer is kept in memory: that it wasn't written says that there was none.
+fn in_memory(fault: CertifyFault) -> CertifyFault
+    ensures value { ComparesKept result }
+{
+    match fault {
+        CertifyFault::Output => CertifyFault::History(RunFault::NoMemory),
+        CertifyFault::Trace(_) | CertifyFault::History(_) | CertifyFault::OtherConfig => fault,
     }
 }
 
@@ -104,15 +148,7 @@ fn explains<R: Files + Input + Print + AllocGlobal>(
     let mut trace = opened(rt, trace_file, why).map_err(of_trace)?;
     let mut text = Kept::new(alloc, history, why);
     let mut said: Vec<u8> = Vec::new(alloc);
-    let explained = compared(
-        alloc,
-        Logged::AsSeen,
-        trace_file,
-        &mut trace,
-        file,
-        &mut text,
-        &mut said,
-    )?;
+    let explained = kept_answer(alloc, trace_file, &mut trace, file, &mut text, &mut said)?;
     if !explained && io::writer(rt).write_all(said.as_slice()).is_err() {
         return Err(CertifyFailure {
             fault: CertifyFault::Output,

@@ -1,5 +1,8 @@
 //! The command `observe`.
 
+ghost use Rattle.std.specs.Prelude.{IfErr};
+ghost use Rattle.casdisk_program.specs.Kept.{FailsKept};
+
 use crate::failure::{Failure, failure_of, unwritten};
 use crate::grammar::Grammar;
 use crate::input::opened;
@@ -25,17 +28,20 @@ fn file_for<'a>(files: ProofFiles<'a>, answer: TraceAnswer) -> Option<&'a str> {
     }
 }
 
-// Looks for a history that explains a trace, with what is written of it kept in memory, where alone writing can fail.
+// Looks for a history that explains a trace, with what is written of it kept in memory.
 fn observed<T: Read, V: Write, R: AllocGlobal>(
     rt: &R,
     trace: &mut T,
     witness: &mut V,
     said: &mut Vec<u8>,
     steps: u64,
-) -> Result<TraceAnswer, RunFault> {
+) -> Result<TraceAnswer, RunFault>
+    ensures memory { IfErr result FailsKept }
+{
     match observe_text(rt.alloc(), trace, witness, said, steps) {
+        Ok(answer) => Ok(answer),
         Err(RunFault::Output) => Err(RunFault::NoMemory),
-        answer => answer,
+        Err(fault) => Err(fault),
     }
 }
 

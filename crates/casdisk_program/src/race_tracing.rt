@@ -1,5 +1,8 @@
 //! What hosts see of a race, in place of the history.
 
+ghost use Rattle.std.specs.Prelude.{IfErr};
+ghost use Rattle.casdisk_program.specs.Kept.{EndsKept};
+
 use crate::output_buffer::BUFFER;
 use crate::racing::end_race;
 use crate::seeding::{RaceEnd, Turns, race_into};
@@ -34,6 +37,39 @@ pub fn print_trace<R: Print + AllocGlobal>(rt: &R, history: &[u8]) -> Result<(),
     Ok(())
 }
 
+// The same end of a race whose history is kept in memory: that it wasn't written says that there was none.
+fn in_memory(end: RaceEnd) -> RaceEnd
+    ensures value { EndsKept result }
+{
+    match end {
+        RaceEnd::Race(RaceFault::Output) | RaceEnd::Crash(CrashFault::Output) => {
+            RaceEnd::Race(RaceFault::NoMemory)
+        }
+        RaceEnd::Race(RaceFault::NoMemory | RaceFault::BadAt(_)) => end,
+        RaceEnd::Crash(
+            CrashFault::NoMemory
+            | CrashFault::NoHistory
+            | CrashFault::SlotsAt(_)
+            | CrashFault::SlotHeld,
+        ) => end,
+    }
+}
+
+// Lets hosts race, and keeps the history.
+fn kept_race<R: Threads + Wait + Sync + AllocGlobal>(
+    rt: &R,
+    race: &Race,
+    turns: Turns,
+    history: &mut Vec<u8>,
+) -> Result<(), RaceEnd>
+    ensures memory { IfErr result EndsKept }
+{
+    match race_into(rt, race, turns, history) {
+        Ok(()) => Ok(()),
+        Err(end) => Err(in_memory(end)),
+    }
+}
+
 // Lets hosts race, and prints what they saw.
 fn raced<R: Threads + Wait + Sync + Print + AllocGlobal>(
     rt: &R,
@@ -41,13 +77,7 @@ fn raced<R: Threads + Wait + Sync + Print + AllocGlobal>(
     turns: Turns,
 ) -> Result<(), RaceEnd> {
     let mut history: Vec<u8> = Vec::new(rt.alloc());
-    match race_into(rt, race, turns, &mut history) {
-        Ok(()) => {}
-        Err(RaceEnd::Race(RaceFault::Output) | RaceEnd::Crash(CrashFault::Output)) => {
-            return Err(RaceEnd::Race(RaceFault::NoMemory));
-        }
-        Err(end) => return Err(end),
-    }
+    kept_race(rt, race, turns, &mut history)?;
     match print_trace(rt, history.as_slice()) {
         Ok(()) => Ok(()),
         Err(RunFault::Output) => Err(RaceEnd::Race(RaceFault::Output)),

@@ -1,11 +1,16 @@
 //! What hosts see of a script's run, in place of the history.
 
+ghost use Rattle.std.specs.Prelude.{IfErr};
+ghost use Rattle.casdisk_program.specs.Kept.{FailsKept};
+
 use crate::failure::{Failure, failure_of};
 use crate::grammar::Grammar;
 use crate::input::opened;
 use crate::race_tracing::print_trace;
-use casdisk_texts::{kinds_of, run_script};
+use casdisk_texts::{RunFault, kinds_of, run_script};
 use history::{Kinds, all_kinds};
+use std::alloc::Global;
+use std::io::Read;
 use std::rt::Files;
 
 // The kinds of lines of a history.
@@ -13,6 +18,17 @@ fn steps() -> Kinds {
     match kinds_of("publish,fetch,grant,block,post,reap") {
         Some(kinds) => kinds,
         None => all_kinds(),
+    }
+}
+
+// Runs a script, and keeps what it prints.
+fn kept_run<I: Read>(alloc: Global, input: &mut I, history: &mut Vec<u8>) -> Result<(), RunFault>
+    ensures memory { IfErr result FailsKept }
+{
+    match run_script(alloc, input, history, steps()) {
+        Ok(()) => Ok(()),
+        Err(RunFault::Output) => Err(RunFault::NoMemory),
+        Err(fault) => Err(fault),
     }
 }
 
@@ -25,10 +41,13 @@ pub(crate) fn trace_run<R: Files + Input + Print + AllocGlobal>(
     let alloc = rt.alloc();
     let mut input = opened(rt, file, why)?;
     let mut history: Vec<u8> = Vec::new(alloc);
-    let done = run_script(alloc, &mut input, &mut history, steps());
-    print_trace(rt, history.as_slice())?;
+    let done = kept_run(alloc, &mut input, &mut history);
+    // (where memory ends, the newest line may be kept in part)
+    if !matches!(done, Err(RunFault::NoMemory)) {
+        print_trace(rt, history.as_slice())?;
+    }
     match done {
         Ok(()) => Ok(0),
-        Err(fault) => Err(failure_of(alloc, file, &input, Grammar::Script, fault.in_memory())),
+        Err(fault) => Err(failure_of(alloc, file, &input, Grammar::Script, fault)),
     }
 }

@@ -2,6 +2,7 @@
 
 pub mod asked;
 pub mod at_random;
+pub mod commands;
 pub mod drawn;
 pub mod edits;
 mod list;

@@ -71,6 +71,12 @@ impl Program {
 
     /// Runs the program; its memory is counted, and refused.
     pub fn refusing(&self, words: &[&str], refused: Refused) -> Ended {
+        self.reading(words, None, refused)
+    }
+
+    /// The same, with a file as its standard input, where there is one.
+    pub fn reading(&self, words: &[&str], input: Option<&Path>, refused: Refused) -> Ended {
+        let input = input.map_or_else(Stdio::null, |path| fs::File::open(path).expect("an input").into());
         let report = self.room.join("report");
         let _ = fs::remove_file(&report);
         let ran = Command::new(&self.file)
@@ -83,7 +89,7 @@ impl Program {
             .env("REFUSE_SEED", refused.seed.to_string())
             .env("REFUSE_SECONDS", SECONDS)
             .env("REFUSE_REPORT", &report)
-            .stdin(Stdio::null())
+            .stdin(input)
             .output()
             .expect("the program");
         let numbers = fs::read_to_string(&report).unwrap_or_default();

@@ -1,11 +1,12 @@
-//! Refuses each allocation of the product's programs in turn, in each worked run, and looks at what follows; then some at
-//! random, of scripts that the product draws by seeds. It prints how many refusals were tried, and which went wrong:
-//! refusals CASDISK RUNS LIBRARY FOLDER HOW-MANY-SCRIPTS FIRST-SEED, where RUNS is the program `refusal_runs`, LIBRARY
-//! refuse.so.
+//! Refuses each allocation of the product's programs in turn, in each worked run and in each command with its options, and
+//! looks at what follows; then some at random, of scripts that the product draws by seeds. It prints how many refusals were
+//! tried, and which went wrong: refusals CASDISK RUNS LIBRARY FOLDER HOW-MANY-SCRIPTS FIRST-SEED, where RUNS is the program
+//! `refusal_runs`, LIBRARY refuse.so.
 
 use std::path::Path;
 use std::sync::atomic::{AtomicUsize, Ordering::Relaxed};
 use trials::at_random::{TIMES, asked_again, by_program};
+use trials::commands::{ASKED, RACES, command, seeded_race};
 use trials::drawn::Seed;
 use trials::program::Program;
 use trials::tally::{Bench, Tally};
@@ -27,6 +28,8 @@ enum Task {
     ByProgram(Seed),
     /// The first seed.
     AskedAgain(u64),
+    Command(&'static str),
+    SeededRace(&'static str),
 }
 
 fn do_task(bench: &Bench, task: Task) {
@@ -37,6 +40,8 @@ fn do_task(bench: &Bench, task: Task) {
         Task::LongRace(number, asks) => long_race(bench, number, asks),
         Task::ByProgram(seed) => by_program(bench, seed),
         Task::AskedAgain(first) => asked_again(bench, first, TOGETHER),
+        Task::Command(asked) => command(bench, asked),
+        Task::SeededRace(options) => seeded_race(bench, options),
     }
 }
 
@@ -44,6 +49,8 @@ fn do_task(bench: &Bench, task: Task) {
 fn tasks_of(race_asks: u64, long_race_asks: u64, scripts: u64, first: u64) -> Vec<Task> {
     let mut tasks: Vec<Task> = (0..ROWS).map(Task::Row).collect();
     tasks.push(Task::Once);
+    tasks.extend(RACES.map(Task::SeededRace));
+    tasks.extend(ASKED.map(Task::Command));
     tasks.extend((first..first + scripts).step_by(TOGETHER as usize).map(Task::AskedAgain));
     tasks.extend((1..=race_asks).map(Task::Race));
     tasks.extend((1..=EARLY).map(|number| Task::LongRace(number, long_race_asks)));
@@ -77,7 +84,8 @@ fn main() {
         }
     });
     let (tried, wrong) = (tally.tried.load(Relaxed), tally.wrong.load(Relaxed));
-    println!("{ROWS} worked runs, races of {race_asks} allocations, {scripts} random scripts from seed {first} on, {TIMES} times");
+    let asked = ASKED.len() + RACES.len();
+    println!("{ROWS} worked runs, {asked} command lines, races of {race_asks} allocations, {scripts} random scripts from seed {first} on, {TIMES} times");
     println!("{tried} refusals tried, {wrong} wrong");
     std::process::exit(i32::from(wrong > 0));
 }
