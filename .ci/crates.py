@@ -4,11 +4,13 @@
     .ci/crates.py above CRATE ..          prints these crates and those that stand on them, in the order of crates.txt
     .ci/crates.py below CRATE ..          the crates that these stand on, without them; `needed`: with them
     .ci/crates.py room FOLDER CRATE ..    makes a folder a tree of these crates alone, for an `rt ci` of its own
+    .ci/crates.py jobs                    prints how many checks `rt ci` may make at a time, if it need not find that out
     .ci/crates.py check CRATE [FUNCTION ..]
                                           checks a crate, or these functions of it, over the libraries that ./verify left in this
                                           tree, and keeps what it proved in out/checked
 """
 import os
+import re
 import shutil
 import subprocess
 import sys
@@ -74,6 +76,13 @@ def check(crate, functions):
     return subprocess.run(words, cwd=f"{TOP}/crates/{crate}", check=False).returncode
 
 
+def jobs():
+    """Returns how many checks `rt ci` may make at a time, or '': it takes a check to want twice the memory that it does."""
+    with open("/proc/meminfo", encoding="ascii") as it:
+        free = int(re.search(r"MemAvailable: *(\d+)", it.read())[1])
+    return os.environ.get("RT_JOBS") or (os.cpu_count() if free >= 4_000_000 * os.cpu_count() else "")
+
+
 def make_room(folder, names):
     """Makes a folder a tree of these crates alone."""
     os.makedirs(f"{folder}/crates")
@@ -92,6 +101,9 @@ def main(words):
     way, *names = words or [""]
     if way == "check" and names and names[0] in LINES:
         return check(names[0], names[1:])
+    if words == ["jobs"]:
+        print(jobs())
+        return 0
     folder = names.pop(0) if way == "room" and names else ""
     ways = {"above": above, "below": below, "needed": lambda it: [*below(it), *it], "room": lambda it: make_room(folder, it)}
     lost = [it for it in names if it not in LINES]

@@ -1,5 +1,6 @@
 """The rows of the files in scenes/: what each directive wants of the program. scenes/README.md says how a row is written."""
 import itertools
+import json
 import os
 import re
 import tempfile
@@ -137,8 +138,10 @@ def certifies(program, history):
             it.write(text_of(lines).encode("latin-1"))
             it.flush()
             same((status, f"{said}\n", ""), program(("certify", it.name), text_of(history)))
+            says(program, ("certify", it.name), text_of(history), (status, f"{said}\n", ""))
     for lines, status, said in alone:
         same((status, f"{said}\n", ""), program(("observe",), text_of(lines)))
+        says(program, ("observe",), text_of(lines), (status, f"{said}\n", ""))
 
 
 def shown(output):
@@ -161,6 +164,41 @@ def ends(program, command, text, end, output=""):
     if command == "explain" and ": " in end:
         wanted = 1, f"{with_line(end)}\n", ""
     same(wanted, program((command,), text))
+    if command != "run":
+        says(program, (command,), text, wanted)
+
+
+def fields_of(command, line):
+    """The fields of the object in place of a line, by docs/CHECKING.md: what is answered, its place, and the file's line."""
+    if command == "tell":
+        return "told", None, None
+    if at := re.fullmatch(r"((?:slots )?bad) at (\d+)(?: .*)?", line):
+        return at[1], int(at[2]), int(at[2]) + 1
+    if at := re.fullmatch(r"(seen) (\d+): .*", line):
+        return at[1], int(at[2]), None
+    if at := re.fullmatch(r"(refuted|not found): up to line (\d+): .*", line):
+        return at[1], None, int(at[2])
+    return line, None, None
+
+
+def numbers_in(line):
+    """The numbers that an explanation says behind its place, of a status its type and its code, without the cause of a rule."""
+    words = re.sub(r" \((?!block )[^)]*\)", "", line.partition(": ")[2].split(": unit ")[0])
+    parts = re.findall(r"(\d+)(?:/([0-9A-F]{2}))?", words)
+    return [int(it, base) for part in parts for it, base in zip(part, (10, 16)) if it]
+
+
+def says(program, words, text, wanted):
+    """That a command with `--json` says in objects what it says in lines, and ends in the same way."""
+    status, output, said = program((*words, "--json"), text)
+    lines = lines_in(wanted[1])
+    same((wanted[0], wanted[2], len(lines)), (status, said, len(lines_in(output))))
+    for line, told in zip(lines, lines_in(output)):
+        it = json.loads(told)
+        same(["answer", "place", "line", "rule", "numbers", "words"], list(it))
+        same((*fields_of(words[0], line), line), (it["answer"], it["place"], it["line"], it["words"]))
+        if not re.search(": (?:byte|DNR|More|CRD) ", line):
+            same(numbers_in(line) if words[0] == "explain" else [], it["numbers"])
 
 
 def with_line(end):
@@ -315,8 +353,9 @@ def beside_slots(program, section, left, answer):
     if not asks and not answer.startswith("bad line "):
         said = int(answer != "legal"), f"{end}\n", ""
         explained = said[0], f"{with_line(answer)}\n", ""
-    same(said, program(("check", "--slots", *area), text))
-    same(explained, program(("explain", "--slots", *area), text))
+    for command, due in (("check", said), ("explain", explained)):
+        same(due, program((command, "--slots", *area), text))
+        says(program, (command, "--slots", *area), text, due)
     same((0, "legal\n", "") if asks or answer.startswith("slots ") else said, program(("check",), text))
 
 

@@ -64,7 +64,8 @@ enum vandrexu_status {
     VANDREXU_OTHER_CONFIG = 111,  /* a trace and a history that don't belong together */
     VANDREXU_GAVE_UP = 112,       /* the steps of a search were used up */
     VANDREXU_NOT_FOUND = 126,     /* a search found neither a history nor a refutation */
-    VANDREXU_NOT_REFUTED = 127    /* the trace isn't refuted by this */
+    VANDREXU_NOT_REFUTED = 127,   /* the trace isn't refuted by this */
+    VANDREXU_FORGOTTEN = 129      /* the step at this place of a history was forgotten */
 };
 
 /* A handle lies in the caller's memory. It is zeros before its `_new` and after its `_free`. Between them the caller
@@ -81,8 +82,14 @@ typedef struct vandrexu_checker {
     uint32_t live;
 } vandrexu_checker;
 
+typedef struct vandrexu_tracer {
+    void *at;
+    uint32_t live;
+} vandrexu_tracer;
+
 #define VANDREXU_CONTROLLER_NONE {0, 0}
 #define VANDREXU_CHECKER_NONE {0, 0}
+#define VANDREXU_TRACER_NONE {0, 0}
 
 /* ---- A configuration ---- */
 
@@ -190,9 +197,15 @@ uint32_t vandrexu_controller_history_count(vandrexu_controller *controller, uint
  * behind them. Place 0 is the configuration's line, place k the k-th entry's, which is the k of `bad at k`. So all lines
  * from 0 on are the text that casdisk prints of a run, and checks. Behind the last one nothing is copied, and *next is
  * `from`. VANDREXU_TOO_SMALL where not one line fits: *needed is the length of the first. 11. It takes as long as the
- * lines that are copied, and the next one, are; what stands before `from` costs nothing. */
+ * lines that are copied, and the next one, are; what stands before `from` costs nothing. VANDREXU_FORGOTTEN where the
+ * entry at `from` was forgotten; if the first one was, place 0 gives the configuration's line alone. */
 uint32_t vandrexu_controller_history(vandrexu_controller *controller, uint64_t from, uint8_t *out, size_t room,
                                      size_t *needed, uint64_t *next);
+
+/* Forgets the entries before a place: their memory is used again, and the places of the others stay. What was forgotten
+ * before stays so. The *next of the call above is the place behind the lines that were copied. So who copies lines and
+ * then forgets up to there keeps memory flat. */
+uint32_t vandrexu_controller_forget(vandrexu_controller *controller, uint64_t place);
 
 /* ---- A checker of histories, which keeps no line ---- */
 
@@ -213,6 +226,24 @@ uint32_t vandrexu_checker_take_line(vandrexu_checker *checker, const uint8_t *li
  * VANDREXU_BAD_LINE; 11. */
 uint32_t vandrexu_checker_why(vandrexu_checker *checker, const uint8_t *line, size_t length, uint8_t *out, size_t room,
                               size_t *needed);
+
+/* ---- A tracer: what hosts see of a history ---- */
+
+/* 0, and the handle owns a tracer of histories of this configuration that has taken no line; 11, 21 to 30,
+ * VANDREXU_IN_USE. */
+uint32_t vandrexu_tracer_new(const vandrexu_config *config, vandrexu_tracer *tracer);
+
+/* Frees it, and leaves the handle zeros. Nothing is done to one that owns nothing. */
+void vandrexu_tracer_free(vandrexu_tracer *tracer);
+
+/* Takes the next line of a history, an entry's, without its line feed: 0; VANDREXU_BAD_LINE and 11, where it isn't taken.
+ * The history of a controller or a disk here is legal. Of one that isn't nothing is said. */
+uint32_t vandrexu_tracer_take_line(vandrexu_tracer *tracer, const uint8_t *line, size_t length);
+
+/* Copies what the line that was taken last adds to the trace (docs/OBSERVING.md): a line with its line feed, where hosts see
+ * something of it, and else nothing: *needed bytes; VANDREXU_TOO_SMALL; 11. The configuration's line and then all these
+ * lines are the trace that casdisk prints of a run, and observes. */
+uint32_t vandrexu_tracer_seen(vandrexu_tracer *tracer, uint8_t *out, size_t room, size_t *needed);
 
 /* ---- Whole texts, from memory to memory, as casdisk takes them ---- */
 
@@ -265,6 +296,13 @@ uint32_t vandrexu_observe_text(const uint8_t *trace, size_t trace_length, uint64
 
 /* ---- Of these calls alone, nothing of which is proved by itself ---- */
 
+/* Lets all handles together have so many bytes of memory at the most, from now on: what wants more is answered as where
+ * malloc refuses it, so by 11, and what is there stays. SIZE_MAX is for no limit. Any thread may call it. */
+void vandrexu_heap_limit(size_t bytes);
+
+/* How many bytes all handles together have now, as malloc rounds them up. */
+size_t vandrexu_heap_used(void);
+
 /* Makes what is ready until nothing is: 0, or the first other answer, which is 11 or VANDREXU_NO_HANDLE. A loop here,
  * since whoever steps a controller wants to look between two steps; `vandrexu_controller_ready` is proved to name the
  * next one. */
@@ -294,6 +332,7 @@ static inline uint32_t vandrexu_settle(vandrexu_controller *controller)
 VANDREXU_LAYOUT(sizeof(void *) == 8 && sizeof(size_t) == 8);
 VANDREXU_LAYOUT(sizeof(vandrexu_controller) == 16 && offsetof(vandrexu_controller, live) == 8);
 VANDREXU_LAYOUT(sizeof(vandrexu_checker) == 16 && offsetof(vandrexu_checker, live) == 8);
+VANDREXU_LAYOUT(sizeof(vandrexu_tracer) == 16 && offsetof(vandrexu_tracer, live) == 8);
 VANDREXU_LAYOUT(sizeof(vandrexu_config) == 24 && offsetof(vandrexu_config, cqs) == 20);
 VANDREXU_LAYOUT(sizeof(vandrexu_entry) == 72 && offsetof(vandrexu_entry, count) == 64);
 VANDREXU_LAYOUT(sizeof(vandrexu_work) == 32 && offsetof(vandrexu_work, statuses) == 28);

@@ -19,7 +19,7 @@ extern "C" {
 
 /* What a call answers beside the numbers of vandrexu.h. */
 enum vandrexu_host_status {
-    VANDREXU_BUSY = 12, /* of vandrexu_disk_fetch, _task and _serve: another handle of the disk had the controller */
+    VANDREXU_BUSY = 12, /* of a disk's calls: another handle of the disk had the controller */
     /* why a host's call isn't started, or wasn't served */
     VANDREXU_CALL_LENGTH = 41,    /* no block, or data that isn't whole blocks, or two data of unlike lengths */
     VANDREXU_CALL_TOO_LONG = 42,  /* more than 256 blocks, or of a pair more than `acwu` and one */
@@ -72,6 +72,23 @@ uint32_t vandrexu_disk_fetch(vandrexu_disk *disk, uint16_t queue);
 /* Makes the next Grant, Block or Post of what is kept; VANDREXU_NOTHING_READY where there is none, and nothing is kept
  * then. */
 uint32_t vandrexu_disk_task(vandrexu_disk *disk);
+
+/* Forgets the entries of the controller's history before a place, the k-th entry's being k: their memory is used again.
+ * UINT64_MAX is for all so far. Nothing that a host or the disk is answered changes by it. */
+uint32_t vandrexu_disk_forget(vandrexu_disk *disk, uint64_t place);
+
+/* Each looks at the controller, and makes no step; VANDREXU_BUSY. What it tells is of the history so far, which is legal
+ * and goes on from what the handle was told before. */
+
+/* Copies lines of the history, as vandrexu_controller_history does: VANDREXU_TOO_SMALL, VANDREXU_FORGOTTEN; 11. */
+uint32_t vandrexu_disk_history(vandrexu_disk *disk, uint64_t from, uint8_t *out, size_t room, size_t *needed,
+                               uint64_t *next);
+
+/* How many entries the history has. */
+uint32_t vandrexu_disk_history_count(vandrexu_disk *disk, uint64_t *count);
+
+/* The block as it lies in the volume: `out` is 512 bytes; VANDREXU_NO_BLOCK. */
+uint32_t vandrexu_disk_medium(vandrexu_disk *disk, uint64_t lba, uint8_t *out);
 
 /* ---- A host ---- */
 

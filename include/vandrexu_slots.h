@@ -25,7 +25,8 @@ enum vandrexu_slot_status {
     VANDREXU_NOT_HELD = 119, /* the host hasn't the slot */
     VANDREXU_HELD = 120,     /* the host has the slot */
     VANDREXU_BAD_NAME = 122, /* the name has a zero in it, or is of the host itself */
-    VANDREXU_BAD_AREA = 123  /* there would be no slot, or one behind block 65,535 */
+    VANDREXU_BAD_AREA = 123, /* there would be no slot, or one behind block 65,535 */
+    VANDREXU_SLOTS_MISUSED = 128 /* the history with this line doesn't keep the discipline of slots */
 };
 
 typedef struct vandrexu_slot_host {
@@ -33,7 +34,13 @@ typedef struct vandrexu_slot_host {
     uint32_t live;
 } vandrexu_slot_host;
 
+typedef struct vandrexu_slot_checker {
+    void *at;
+    uint32_t live;
+} vandrexu_slot_checker;
+
 #define VANDREXU_SLOT_HOST_NONE {0, 0}
+#define VANDREXU_SLOT_CHECKER_NONE {0, 0}
 
 /* As vandrexu_disk_new, but with so many slots from block `first` on: slot i is block first + i. VANDREXU_BAD_AREA,
  * whatever the configuration and the handle are; else the numbers of vandrexu_disk_new. */
@@ -96,6 +103,29 @@ typedef struct vandrexu_slot_reply {
  * where there is none, the reply says pending. */
 uint32_t vandrexu_slot_poll(vandrexu_slot_host *host, vandrexu_slot_reply *reply);
 
+/* ---- A checker of the discipline of slots, which keeps no line ---- */
+
+/* 0, and the handle owns a checker of so many slots from block `first` on, for histories of this configuration, that has
+ * taken no line; VANDREXU_BAD_AREA, whatever the configuration and the handle are; 11, 21 to 30, VANDREXU_IN_USE. */
+uint32_t vandrexu_slot_checker_new(const vandrexu_config *config, uint64_t first, uint32_t count,
+                                   vandrexu_slot_checker *checker);
+
+/* Frees it, and leaves the handle zeros. Nothing is done to one that owns nothing. */
+void vandrexu_slot_checker_free(vandrexu_slot_checker *checker);
+
+/* Takes the next line of a history, an entry's, without its line feed: 0 where all lines so far keep the discipline of the
+ * slots (docs/CHECKING.md); VANDREXU_SLOTS_MISUSED where they don't, and from then on for each; VANDREXU_BAD_LINE and 11,
+ * where it isn't taken. The history of a disk is legal. Of one that isn't nothing is said: give the lines of others to
+ * vandrexu_checker_take_line, too. */
+uint32_t vandrexu_slot_checker_take_line(vandrexu_slot_checker *checker, const uint8_t *line, size_t length);
+
+/* Which line broke the discipline first: 0 where none did; VANDREXU_SLOTS_MISUSED, and *place is its place, the K of `slots
+ * bad at K`, *block that of the slot, and `out` begins with the words of the rule, *needed bytes; VANDREXU_TOO_SMALL for
+ * those words, *needed says how many they are; 11. */
+uint32_t vandrexu_slot_checker_why(vandrexu_slot_checker *checker, uint64_t *place, uint64_t *block, uint8_t *out,
+                                   size_t room, size_t *needed);
+
+VANDREXU_LAYOUT(sizeof(vandrexu_slot_checker) == 16 && offsetof(vandrexu_slot_checker, live) == 8);
 VANDREXU_LAYOUT(sizeof(vandrexu_slot_host) == 16 && offsetof(vandrexu_slot_host, live) == 8);
 VANDREXU_LAYOUT(sizeof(vandrexu_slot_reply) == 24 && offsetof(vandrexu_slot_reply, serial) == 8);
 VANDREXU_LAYOUT(offsetof(vandrexu_slot_reply, host) == 16 && offsetof(vandrexu_slot_reply, sct) == 20);

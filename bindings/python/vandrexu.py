@@ -96,6 +96,8 @@ class Status(IntEnum):
     USED_QUEUE = 125
     NOT_FOUND = 126
     NOT_REFUTED = 127
+    SLOTS_MISUSED = 128
+    FORGOTTEN = 129
 
 
 WORDS: dict[Status, str] = {
@@ -144,6 +146,7 @@ WORDS: dict[Status, str] = {
     Status.GAVE_UP: "the steps of the search were used up",
     Status.NOT_FOUND: "neither a history nor a refutation was found",
     Status.NOT_REFUTED: "the trace isn't refuted by this",
+    Status.FORGOTTEN: "the step at this place was forgotten",
     Status.UNFINISHED: "what was fetched before isn't finished",
     Status.NO_HOST: "as many hosts were made as the disk was made for",
     Status.BAD_NUMBER: "a host has no number 0",
@@ -156,6 +159,7 @@ WORDS: dict[Status, str] = {
     Status.BAD_AREA: "there would be no slot, or one behind block 65,535",
     Status.USED_NUMBER: "a host of the disk had the number before",
     Status.USED_QUEUE: "a host of the disk had the completion queue before",
+    Status.SLOTS_MISUSED: "the history with this line doesn't keep the discipline of slots",
 }
 """What each status says."""
 
@@ -204,7 +208,8 @@ class CallRefused(Error):
 
 
 class SlotRefused(Error):
-    """A disk with slots or a slot host isn't made, or a call about a slot isn't begun: statuses 118 to 123."""
+    """A disk with slots, a slot host or a checker of slots isn't made, or a call about a slot isn't begun: statuses 118
+    to 123."""
 
 
 class NoHandle(Error):
@@ -221,6 +226,10 @@ class BadLine(Error, ValueError):
 
 class NotLegal(Error):
     """The history, or the history with this line, isn't legal: status 108."""
+
+
+class SlotsMisused(Error):
+    """The history with this line doesn't keep the discipline of slots: status 128."""
 
 
 class NotExplained(Error):
@@ -248,11 +257,16 @@ class NotRefuted(Error):
     """The trace isn't refuted by this: status 127."""
 
 
+class Forgotten(Error, LookupError):
+    """The step at this place of a history was forgotten: status 129."""
+
+
 _ERRORS = {
     Status.NO_MEMORY: NoMemory, Status.NO_HANDLE: NoHandle, Status.NO_BLOCK: NoBlock, Status.BAD_LINE: BadLine,
     Status.NOT_LEGAL: NotLegal, Status.NOT_EXPLAINED: NotExplained, Status.BAD_HISTORY: BadHistory,
     Status.OTHER_CONFIG: OtherConfig, Status.GAVE_UP: GaveUp, Status.NOT_FOUND: NotFound,
-    Status.NOT_REFUTED: NotRefuted, Status.BUSY: Busy, Status.CALL_BUSY: Busy,
+    Status.NOT_REFUTED: NotRefuted, Status.FORGOTTEN: Forgotten, Status.SLOTS_MISUSED: SlotsMisused,
+    Status.BUSY: Busy, Status.CALL_BUSY: Busy,
     Status.CALL_NO_MEMORY: NoMemory, Status.CALL_LENGTH: CallRefused, Status.CALL_TOO_LONG: CallRefused,
     Status.CALL_NO_ROOM: CallRefused, Status.CALL_SLOT_AREA: CallRefused, Status.CALL_NO_SERIAL: CallRefused,
 }
@@ -300,6 +314,16 @@ class RawHost(Structure):
 
 class RawSlotHost(Structure):
     """vandrexu_slot_host"""
+    _fields_ = [("at", c_void_p), ("live", c_uint32)]
+
+
+class RawTracer(Structure):
+    """vandrexu_tracer"""
+    _fields_ = [("at", c_void_p), ("live", c_uint32)]
+
+
+class RawSlotChecker(Structure):
+    """vandrexu_slot_checker"""
     _fields_ = [("at", c_void_p), ("live", c_uint32)]
 
 
@@ -353,6 +377,8 @@ _Checker = POINTER(RawChecker)
 _Disk = POINTER(RawDisk)
 _Host = POINTER(RawHost)
 _SlotHost = POINTER(RawSlotHost)
+_Tracer = POINTER(RawTracer)
+_SlotChecker = POINTER(RawSlotChecker)
 _TEXT = [_Bytes, c_size_t, POINTER(c_size_t), POINTER(c_uint64)]
 _ARGUMENTS = {
     "vandrexu_config_fault": [POINTER(RawConfig)],
@@ -370,20 +396,31 @@ _ARGUMENTS = {
     "vandrexu_controller_medium": [_Controller, c_uint64, _Bytes],
     "vandrexu_controller_history_count": [_Controller, POINTER(c_uint64)],
     "vandrexu_controller_history": [_Controller, c_uint64, _Bytes, c_size_t, POINTER(c_size_t), POINTER(c_uint64)],
+    "vandrexu_controller_forget": [_Controller, c_uint64],
     "vandrexu_checker_new": [POINTER(RawConfig), _Checker],
     "vandrexu_checker_free": [_Checker],
     "vandrexu_checker_take_line": [_Checker, c_char_p, c_size_t],
     "vandrexu_checker_why": [_Checker, c_char_p, c_size_t, _Bytes, c_size_t, POINTER(c_size_t)],
+    "vandrexu_tracer_new": [POINTER(RawConfig), _Tracer],
+    "vandrexu_tracer_free": [_Tracer],
+    "vandrexu_tracer_take_line": [_Tracer, c_char_p, c_size_t],
+    "vandrexu_tracer_seen": [_Tracer, _Bytes, c_size_t, POINTER(c_size_t)],
     "vandrexu_run_text": [c_char_p, c_size_t, c_uint8, *_TEXT],
     "vandrexu_check_text": [c_char_p, c_size_t, *_TEXT],
     "vandrexu_certify_text": [c_char_p, c_size_t, c_char_p, c_size_t, *_TEXT],
     "vandrexu_refute_text": [c_char_p, c_size_t, c_char_p, c_size_t, *_TEXT],
     "vandrexu_observe_text": [c_char_p, c_size_t, c_uint64, _Bytes, c_size_t, POINTER(c_size_t), *_TEXT],
+    "vandrexu_heap_limit": [c_size_t],
+    "vandrexu_heap_used": [],
     "vandrexu_disk_new": [POINTER(RawConfig), c_uint16, _Disk],
     "vandrexu_disk_free": [_Disk],
     "vandrexu_disk_serve": [_Disk, c_uint16],
     "vandrexu_disk_fetch": [_Disk, c_uint16],
     "vandrexu_disk_task": [_Disk],
+    "vandrexu_disk_forget": [_Disk, c_uint64],
+    "vandrexu_disk_history": [_Disk, c_uint64, _Bytes, c_size_t, POINTER(c_size_t), POINTER(c_uint64)],
+    "vandrexu_disk_history_count": [_Disk, POINTER(c_uint64)],
+    "vandrexu_disk_medium": [_Disk, c_uint64, _Bytes],
     "vandrexu_host_new": [_Disk, c_uint32, c_uint16, _Host],
     "vandrexu_host_free": [_Host],
     "vandrexu_host_read": [_Host, c_uint64, c_uint32],
@@ -402,6 +439,11 @@ _ARGUMENTS = {
     "vandrexu_slot_take_over": [_SlotHost, c_uint32, c_uint32, c_uint64],
     "vandrexu_slot_ask_holder": [_SlotHost, c_uint32],
     "vandrexu_slot_poll": [_SlotHost, POINTER(RawSlotReply)],
+    "vandrexu_slot_checker_new": [POINTER(RawConfig), c_uint64, c_uint32, _SlotChecker],
+    "vandrexu_slot_checker_free": [_SlotChecker],
+    "vandrexu_slot_checker_take_line": [_SlotChecker, c_char_p, c_size_t],
+    "vandrexu_slot_checker_why": [_SlotChecker, POINTER(c_uint64), POINTER(c_uint64), _Bytes, c_size_t,
+                                  POINTER(c_size_t)],
 }
 
 
@@ -429,7 +471,7 @@ def _load() -> ctypes.CDLL:
     for name, arguments in _ARGUMENTS.items():
         function = getattr(library, name)
         function.argtypes = arguments
-        function.restype = None if name.endswith("_free") else c_uint32
+        function.restype = None if name.endswith(("_free", "_limit")) else c_size_t if name.endswith("_used") else c_uint32
     return library
 
 
@@ -715,7 +757,67 @@ class _Handle:
             self.close()
 
 
-class Controller(_Handle):
+class _Looked(_Handle):
+    """What has blocks and a history: a Controller and a Disk."""
+    _kind: str
+
+    def medium(self, lba: int) -> bytes:
+        """The block as it lies in the volume, also in the middle of a unit."""
+        block = (c_uint8 * BLOCK)()
+        self._ask(f"{self._kind}_medium", _fits(lba, 64), block)
+        return bytes(block)
+
+    def history_count(self) -> int:
+        """How many steps were made."""
+        count = c_uint64()
+        self._ask(f"{self._kind}_history_count", byref(count))
+        return count.value
+
+    def history(self, start: int = 0) -> Iterator[str]:
+        """The lines of the history from a place on, without their line feeds. Place 0 is the configuration's line, and
+        place k the k-th step's; what stands before costs nothing. Steps that are made meanwhile are told, too. At one
+        that was forgotten `Forgotten` is raised.
+
+        >>> with Controller(Config()) as disk:
+        ...     disk.publish(1, [Entry.flush(7)])
+        ...     work = disk.fetch(1)
+        ...     disk.settle()
+        ...     list(disk.history(2))
+        ['fetch 1 1 1 ok', 'post 1 00000000000000000100010007000100 -']
+        """
+        place, room = _fits(start, 64), 4096
+        while True:
+            out, needed, behind = (c_uint8 * room)(), c_size_t(), c_uint64()
+            try:
+                self._ask(f"{self._kind}_history", place, out, room, byref(needed), byref(behind))
+            except Error as error:
+                if error.status != Status.TOO_SMALL:
+                    raise
+                room = needed.value
+                continue
+            if behind.value == place:
+                return
+            place = behind.value
+            yield from bytes(out)[:needed.value].decode().splitlines()
+
+    def trace(self) -> Iterator[str]:
+        """The lines of the trace (docs/OBSERVING.md): the configuration's line, and what hosts saw of each step.
+
+        >>> with Disk(Config(), 1) as disk, disk.host(1, 1) as host:
+        ...     host.read(3)
+        ...     disk.serve(1)
+        ...     kind = host.poll().kind
+        ...     [line.split(" ")[0] for line in disk.trace()], list(disk.trace())[2][-3:]
+        (['config', 'publish', 'reap'], ' 00')
+        """
+        yield str(self.config)
+        with Tracer(self.config) as tracer:
+            for line in self.history(1):
+                if seen := tracer.take_line(line):
+                    yield seen
+
+
+class Controller(_Looked):
     """A controller with its volume, its queues and its history. It is freed where its `with` ends, by `close`, or where
     it is forgotten.
 
@@ -734,6 +836,7 @@ class Controller(_Handle):
     vandrexu.NoHandle: the handle owns nothing
     """
     _new, _free, _raw_type = "vandrexu_controller_new", "vandrexu_controller_free", RawController
+    _kind = "vandrexu_controller"
 
     def reserve(self, more: int) -> None:
         """Makes the memory of so many Grants, Blocks and Reaps that come next, so that none of them raises NoMemory."""
@@ -856,43 +959,18 @@ class Controller(_Handle):
                 return
             yield reaped
 
-    def medium(self, lba: int) -> bytes:
-        """The block as it lies in the volume, also in the middle of a unit."""
-        block = (c_uint8 * BLOCK)()
-        self._ask("vandrexu_controller_medium", _fits(lba, 64), block)
-        return bytes(block)
-
-    def history_count(self) -> int:
-        """How many steps were made."""
-        count = c_uint64()
-        self._ask("vandrexu_controller_history_count", byref(count))
-        return count.value
-
-    def history(self, start: int = 0) -> Iterator[str]:
-        """The lines of the history from a place on, without their line feeds. Place 0 is the configuration's line, and
-        place k the k-th step's; what stands before costs nothing. Steps that are made meanwhile are told, too.
+    def forget(self, place: int) -> None:
+        """Forgets the steps before a place, which counts as in `history`: their memory is used again, and the places of
+        the others stay. What was forgotten before stays so.
 
         >>> with Controller(Config()) as disk:
         ...     disk.publish(1, [Entry.flush(7)])
         ...     work = disk.fetch(1)
-        ...     disk.settle()
+        ...     disk.forget(2)
         ...     list(disk.history(2))
-        ['fetch 1 1 1 ok', 'post 1 00000000000000000100010007000100 -']
+        ['fetch 1 1 1 ok']
         """
-        place, room = _fits(start, 64), 4096
-        while True:
-            out, needed, behind = (c_uint8 * room)(), c_size_t(), c_uint64()
-            try:
-                self._ask("vandrexu_controller_history", place, out, room, byref(needed), byref(behind))
-            except Error as error:
-                if error.status != Status.TOO_SMALL:
-                    raise
-                room = needed.value
-                continue
-            if behind.value == place:
-                return
-            place = behind.value
-            yield from bytes(out)[:needed.value].decode().splitlines()
+        self._ask("vandrexu_controller_forget", _fits(place, 64))
 
 
 class Checker(_Handle):
@@ -940,7 +1018,81 @@ class Checker(_Handle):
                     raise
 
 
-class Disk(_Handle):
+class Tracer(_Handle):
+    """Makes the trace of a legal history (docs/OBSERVING.md) line by line, and keeps no line but the last. It is freed
+    where its `with` ends, by `close`, or where it is forgotten. `Disk.trace` and `Controller.trace` are made by it."""
+    _new, _free, _raw_type = "vandrexu_tracer_new", "vandrexu_tracer_free", RawTracer
+
+    def take_line(self, line: str | bytes) -> str | None:
+        """Takes the next line of the history, and returns the line of the trace that it adds, and None where hosts see
+        nothing of it. BadLine and NoMemory are raised where it isn't taken."""
+        line, needed = _bytes_of(line), c_size_t(256)
+        with self._turn:
+            handle = byref(self._raw)
+            _want(library.vandrexu_tracer_take_line(handle, line, len(line)))
+            while True:
+                room = needed.value
+                seen = (c_uint8 * room)()
+                number = library.vandrexu_tracer_seen(handle, seen, room, byref(needed))
+                if number != Status.TOO_SMALL:
+                    _want(number)
+                    return bytes(seen)[:needed.value].decode().removesuffix("\n") or None
+
+
+class SlotFault(NamedTuple):
+    """The first line of a history that breaks the discipline of slots: its place from 1, the block of the slot, and the
+    words of the rule."""
+    place: int
+    block: int
+    words: str
+
+
+class SlotChecker(_Handle):
+    """Checks whether the hosts of a legal history keep the discipline of their slots, line by line, and keeps no line.
+    It is freed where its `with` ends, by `close`, or where it is forgotten.
+
+    The lines are those of a Checker. The history of a Disk is legal. Of one that isn't nothing is said: give the lines
+    of others to a Checker, too.
+
+    >>> with Disk(Config(), 1) as disk, disk.host(1, 1) as host, SlotChecker(Config(), 3, 2) as slots:
+    ...     host.write(4, b"\\xA1" * 512)
+    ...     slots.why()
+    ...     try:
+    ...         for line in disk.history(1):
+    ...             slots.take_line(line)
+    ...     except SlotsMisused:
+    ...         slots.why()
+    SlotFault(place=1, block=4, words='a write in the slots that is no claim, release or takeover')
+    """
+    _new, _free, _raw_type = "vandrexu_slot_checker_new", "vandrexu_slot_checker_free", RawSlotChecker
+
+    def __init__(self, config: Config, first: int, count: int):
+        """A checker of so many slots from block `first` on, which has taken no line."""
+        super().__init__(config, _fits(first, 64), _fits(count, 32))
+
+    def take_line(self, line: str | bytes) -> None:
+        """Takes the next line of the history. SlotsMisused is raised where the history with it doesn't keep the
+        discipline, and from then on for each; BadLine and NoMemory, where it isn't taken."""
+        line = _bytes_of(line)
+        self._ask("vandrexu_slot_checker_take_line", line, len(line))
+
+    def why(self) -> SlotFault | None:
+        """The first of the lines that were taken that breaks the discipline, and None where none does."""
+        place, block, needed = c_uint64(), c_uint64(), c_size_t(128)
+        while True:
+            room = needed.value
+            words = (c_uint8 * room)()
+            try:
+                self._ask("vandrexu_slot_checker_why", byref(place), byref(block), words, room, byref(needed))
+                return None
+            except SlotsMisused:
+                return SlotFault(place.value, block.value, bytes(words)[:needed.value].decode())
+            except Error as error:
+                if error.status != Status.TOO_SMALL:
+                    raise
+
+
+class Disk(_Looked):
     """A controller that hosts share. It is served by this handle, and freed where its `with` ends, by `close`, or where
     it is forgotten; hosts that were made of it stay, but nobody serves them then.
 
@@ -957,6 +1109,7 @@ class Disk(_Handle):
     (['PENDING', 'SWAPPED'], ['PENDING', 'DIFFERS'])
     """
     _new, _free, _raw_type = "vandrexu_disk_new", "vandrexu_disk_free", RawDisk
+    _kind = "vandrexu_disk"
 
     def __init__(self, config: Config, hosts: int, *, slots: tuple[int, int] | None = None):
         """A disk with no history, whose blocks are zeros, of which so many hosts can be made. With `slots=(first,
@@ -1016,6 +1169,19 @@ class Disk(_Handle):
                 raise
             return False
         return True
+
+    def forget(self, place: int = 2 ** 64 - 1) -> None:
+        """Forgets the steps of the disk's history before a place, the k-th step's being k, or all so far: their memory is
+        used again. Nothing that a host or the disk is answered changes by it.
+
+        >>> with Disk(Config(), 1) as disk, disk.host(1, 1) as host:
+        ...     host.read(3, 1)
+        ...     disk.serve(1)
+        ...     disk.forget()
+        ...     host.poll().data == bytes(512)
+        True
+        """
+        self._ask("vandrexu_disk_forget", _fits(place, 64))
 
 
 class ReplyKind(IntEnum):
@@ -1319,3 +1485,24 @@ def observe_text(trace: str | bytes, steps: int = 10_000_000) -> str:
                 why.refutation = found_text
                 raise
             return found_text
+
+
+def heap_limit(size: int = 2 ** 64 - 1) -> None:
+    """Lets all that the library holds have so many bytes at the most, from now on: what wants more raises NoMemory, and
+    what is there stays. Without a number there is no limit.
+
+    >>> heap_limit(heap_used() + 1000)
+    >>> Controller(Config())
+    Traceback (most recent call last):
+    vandrexu.NoMemory: no memory
+    >>> heap_limit()
+    >>> with Controller(Config()) as disk:
+    ...     heap_used() > 512 * 1024
+    True
+    """
+    library.vandrexu_heap_limit(_fits(size, 64))
+
+
+def heap_used() -> int:
+    """How many bytes the library holds now, as malloc rounds them up."""
+    return library.vandrexu_heap_used()

@@ -1,5 +1,5 @@
-/* Takes the lines of a controller's history in pieces: what fits, what doesn't, and what is behind the last. Exits with 1 at
- * the first that isn't as it should be.
+/* Takes the lines of a controller's history in pieces: what fits, what doesn't, what is behind the last, and what was
+ * forgotten. Exits with 1 at the first that isn't as it should be.
  *
  * Compiled with REFUSES it has a heap of its own in place of heap.c, and refuses each allocation of a call in turn. */
 #include "vandrexu.h"
@@ -83,6 +83,7 @@ static void nothing(void)
     uint64_t next = 7;
     WANT(vandrexu_controller_history(&none, 0, out, 4, &needed, &next) == VANDREXU_NO_HANDLE);
     WANT(needed == 7 && next == 7 && out[0] == 9 && out[3] == 9);
+    WANT(vandrexu_controller_forget(&none, 1) == VANDREXU_NO_HANDLE);
 }
 
 static void places(void)
@@ -116,6 +117,48 @@ static void places(void)
     vandrexu_controller_free(&disk);
 }
 
+/* The line at a place was forgotten: nothing is written. */
+static void lost(vandrexu_controller *disk, uint64_t from)
+{
+    uint8_t out[4] = {9, 9, 9, 9};
+    size_t needed = 7;
+    uint64_t next = 7;
+    WANT(vandrexu_controller_history(disk, from, out, 4, &needed, &next) == VANDREXU_FORGOTTEN);
+    WANT(needed == 7 && next == 7 && out[0] == 9 && out[3] == 9);
+}
+
+/* What stands before a place is forgotten, and the places of the rest stay. */
+static void forgets(void)
+{
+    vandrexu_controller disk = VANDREXU_CONTROLLER_NONE;
+    uint64_t count;
+    WANT(vandrexu_controller_new(&config, &disk) == VANDREXU_DONE);
+    WANT(vandrexu_controller_forget(&disk, 9) == VANDREXU_DONE);
+    flush(&disk);
+    for (uint64_t place = 0; place < 2; place++) {
+        WANT(vandrexu_controller_forget(&disk, place) == VANDREXU_DONE);
+        gives(&disk, 0, 1024, CONFIG_LINE FIRST SECOND THIRD FOURTH, 5);
+    }
+    for (int again = 0; again < 2; again++) {
+        WANT(vandrexu_controller_forget(&disk, 3 - again) == VANDREXU_DONE);
+        gives(&disk, 0, 1024, CONFIG_LINE, 1);
+        lacks(&disk, 0, 3, CONFIG_LINE);
+        lost(&disk, 1);
+        lost(&disk, 2);
+        gives(&disk, 3, 1024, THIRD FOURTH, 5);
+        gives(&disk, 4, strlen(FOURTH), FOURTH, 5);
+        gives(&disk, 5, 1024, "", 5);
+    }
+    WANT(vandrexu_controller_forget(&disk, UINT64_MAX) == VANDREXU_DONE);
+    WANT(vandrexu_controller_history_count(&disk, &count) == VANDREXU_DONE && count == 4);
+    lost(&disk, 4);
+    gives(&disk, 5, 1024, "", 5);
+    /* the next steps are made and told as ever */
+    flush(&disk);
+    gives(&disk, 6, strlen("fetch 1 2 1 ok\n"), "fetch 1 2 1 ok\n", 7);
+    vandrexu_controller_free(&disk);
+}
+
 /* A call takes no longer behind a long history: the last of 400,000 lines is had 200,000 times. */
 static void long_histories(void)
 {
@@ -139,6 +182,7 @@ int main(void)
 {
     nothing();
     places();
+    forgets();
     long_histories();
     puts("history: as it should be");
     return 0;

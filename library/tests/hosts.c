@@ -57,6 +57,7 @@ static void nothing(void)
     WANT(vandrexu_disk_serve(&disk, 1) == VANDREXU_NO_HANDLE);
     WANT(vandrexu_disk_fetch(&disk, 1) == VANDREXU_NO_HANDLE);
     WANT(vandrexu_disk_task(&disk) == VANDREXU_NO_HANDLE);
+    WANT(vandrexu_disk_forget(&disk, 1) == VANDREXU_NO_HANDLE);
     WANT(vandrexu_host_new(&disk, 1, 1, &host) == VANDREXU_NO_HANDLE);
     WANT(vandrexu_host_new(&disk, 0, 0, &host) == VANDREXU_NO_HANDLE);
     WANT(vandrexu_host_read(&host, 0, 1) == VANDREXU_NO_HANDLE);
@@ -262,6 +263,35 @@ static void steps(void)
     vandrexu_host_free(&one);
 }
 
+/* A disk whose history is forgotten, also in the midst of a call, answers as ever. */
+static void forgets(void)
+{
+    vandrexu_disk disk = VANDREXU_DISK_NONE;
+    vandrexu_host one = VANDREXU_HOST_NONE;
+    uint8_t old[512] = {0}, new[512], got[512];
+    size_t needed;
+    fill(new, 0x5A);
+    WANT(vandrexu_disk_new(&config, 1, &disk) == VANDREXU_DONE);
+    WANT(vandrexu_disk_forget(&disk, UINT64_MAX) == VANDREXU_DONE);
+    WANT(vandrexu_host_new(&disk, 7, 2, &one) == VANDREXU_DONE);
+    WANT(vandrexu_host_compare_and_write(&one, 1, old, 512, new, 512) == VANDREXU_DONE);
+    WANT(vandrexu_disk_fetch(&disk, 2) == VANDREXU_DONE);
+    do {
+        for (uint64_t place = 0; place < 3; place++)
+            WANT(vandrexu_disk_forget(&disk, place) == VANDREXU_DONE);
+        WANT(vandrexu_disk_forget(&disk, UINT64_MAX) == VANDREXU_DONE);
+    } while (vandrexu_disk_task(&disk) == VANDREXU_DONE);
+    over(&one, VANDREXU_REPLY_SWAPPED);
+    WANT(vandrexu_host_read(&one, 1, 1) == VANDREXU_DONE);
+    serve(&disk, 2);
+    WANT(vandrexu_disk_forget(&disk, UINT64_MAX) == VANDREXU_DONE);
+    over(&one, VANDREXU_REPLY_READ);
+    WANT(vandrexu_host_data(&one, got, 512, &needed) == VANDREXU_DONE && needed == 512);
+    WANT(memcmp(got, new, 512) == 0);
+    vandrexu_disk_free(&disk);
+    vandrexu_host_free(&one);
+}
+
 /* No handle is left behind. */
 static void many(void)
 {
@@ -353,6 +383,7 @@ int main(void)
     swaps();
     faults();
     steps();
+    forgets();
     many();
     threads();
     puts("hosts: as they should be");

@@ -160,7 +160,7 @@ class Calls(unittest.TestCase):
             for call, arguments in ((disk.reserve, (1,)), (disk.publish, (1, [Entry.flush(1)])), (disk.fetch, (1,)),
                                     (disk.grant, (1,)), (disk.block, (1,)), (disk.post, (1,)), (disk.reap, (1,)),
                                     (disk.ready, ()), (disk.settle, ()), (disk.medium, (0,)), (disk.history_count, ()),
-                                    (lambda: next(disk.history()), ()),
+                                    (lambda: next(disk.history()), ()), (disk.forget, (1,)),
                                     (checker.take_line, (FLUSH,)), (checker.why, (FLUSH,))):
                 self.assertIsInstance(self.refused(Status.NO_HANDLE, call, *arguments), NoHandle)
 
@@ -319,7 +319,7 @@ class Calls(unittest.TestCase):
         kinds = {"uint8_t": c_uint8, "uint16_t": ctypes.c_uint16, "uint32_t": ctypes.c_uint32, "uint64_t": c_uint64,
                  "size_t": c_size_t, "void *": pointer}
         structs = re.findall(r"typedef struct vandrexu_(\w+) \{(.*?)\}", header, flags=re.S)
-        self.assertEqual(len(structs), 13)
+        self.assertEqual(len(structs), 15)
         for name, members in structs:
             made = []
             for kind, field, many in re.findall(r"(\w+ \*?)(\w+)(?:\[(\d+)\])?;", members):
@@ -332,10 +332,10 @@ class Calls(unittest.TestCase):
             for field, _ in made:
                 mine, due = getattr(raw, field), getattr(wanted, field)
                 self.assertEqual((mine.offset, mine.size), (due.offset, due.size), f"{name}.{field}")
-        functions = dict(re.findall(r"^(?:uint32_t|void) (vandrexu_\w+)\(([^)]*)\);", header, flags=re.M))
+        functions = dict(re.findall(r"^(?:uint32_t|size_t|void) (vandrexu_\w+)\((?:void|([^)]*))\);", header, flags=re.M))
         self.assertEqual(set(functions), set(vandrexu._ARGUMENTS))
         for name, arguments in functions.items():
-            wide = [sizeof(pointer if "*" in it else kinds[it.split()[0]]) for it in arguments.split(",")]
+            wide = [sizeof(pointer if "*" in it else kinds[it.split()[0]]) for it in filter(None, arguments.split(","))]
             self.assertEqual([sizeof(it) for it in vandrexu._ARGUMENTS[name]], wide, name)
 
 

@@ -47,6 +47,15 @@ class Hosts(unittest.TestCase):
             self.assertEqual(next(more), lines[-1])
             disk.publish(1, [Entry.flush(9)])
             self.assertEqual(len(list(more)), 1)
+            # what stands before a place is forgotten, and the places of the rest stay
+            for _ in range(2):
+                disk.forget(69)
+                self.assertEqual(list(disk.history(69)), lines[69:] + list(disk.history(len(lines))))
+                head = disk.history()
+                self.assertEqual(next(head), lines[0])
+                for told in (head, disk.history(1), disk.history(68)):
+                    self.assertIsInstance(self.refused(Status.FORGOTTEN, next, told), vandrexu.Forgotten)
+            self.assertEqual(disk.history_count(), len(lines))
 
     # ---- a disk and its hosts
 
@@ -180,7 +189,8 @@ class Hosts(unittest.TestCase):
         one.write(0, A1)
         self.assertEqual(one.poll(), Reply(ReplyKind.PENDING))
         one.close()
-        for call, arguments in ((disk.serve, (1,)), (disk.fetch, (1,)), (disk.task, ()), (disk.host, (1, 1)),
+        for call, arguments in ((disk.serve, (1,)), (disk.fetch, (1,)), (disk.task, ()),
+                                (disk.forget, ()), (disk.host, (1, 1)),
                                 (one.read, (0,)), (one.write, (0, A1)), (one.write_zeroes, (0,)),
                                 (one.compare, (0, A1)), (one.compare_and_write, (0, A1, A1)), (one.poll, ())):
             self.assertIsInstance(self.refused(Status.NO_HANDLE, call, *arguments), NoHandle)

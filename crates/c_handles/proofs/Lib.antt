@@ -1,5 +1,6 @@
 mod Opens
 mod PieceLines
+mod PieceKept
 pub mod HostNumbers
 pub mod Marks
 pub mod Moving

@@ -1,17 +1,19 @@
 -- What contracts say of a disk.
 use Rattle.std.specs.Arc.{arc_value}
-use Rattle.std.specs.Prelude.{All, Err, List, None, Ok, Option, Result, Some, [], replicate, suc, true, vec_len, zero}
-use Rattle.std.specs.Prelude.{IfErr, IfOk, ℕ, ◌≡◌, ◌⊎◌}
+use Rattle.std.specs.Prelude.{All, Err, List, None, Ok, Option, Result, Some, [], drop, replicate, reverse, suc, true}
+use Rattle.std.specs.Prelude.{IfErr, IfOk, vec_len, zero, ℕ, ◌≡◌, ◌⊎◌}
 use Rattle.c_handles.specs.Owned.{mark}
 use Rattle.nvme_model.specs.Config.{config_fault, config_fault_number}
+use Rattle.nvme_model.specs.History.{Past}
 use Rattle.nvme_model.specs.Kept.{ControllerInvariant}
+use Rattle.nvme_model.specs.Passes.{entries}
 use Rattle.nvme_model.specs.declared.array.Range.{Range}
 use Rattle.nvme_model.specs.declared.config.ConfigFault.{ConfigFault}
 use Rattle.nvme_model.specs.declared.config.ConfigNumbers.{ConfigNumbers}
 use Rattle.nvme_model.specs.declared.step.Step.{Step}
-use Rattle.controller_interface.specs.State.{Accepts, Refuses}
+use Rattle.controller_interface.specs.State.{Accepts, ControllerState, Refuses}
 use Rattle.controller_interface.specs.declared.answer.Answer.{Answer}
-use Rattle.meet_lock.specs.Passes.{Declines, IsSame, Knows, Worked}
+use Rattle.meet_lock.specs.Passes.{Declines, IsSame, Knows, Worked, mine, seen}
 use Rattle.meet_lock.specs.declared.pass.Declined.{Declined}
 use Rattle.ticket_laws.specs.Tasks.{own_done, task_fault}
 use Rattle.work_queue.specs.Duties.{duty_of, task_step}
@@ -37,6 +39,14 @@ disk_slots d = d.slots
 -- the numbers of the hosts that were made of it, by completion queue, and 0 where none was made
 abbrev pub hosts_had : Disk → List ℕ
 hosts_had d = d.numbers
+
+-- the history that its server has seen, the newest entry first
+abbrev pub disk_past : Disk → Past
+disk_past d = entries (seen d.server)
+
+-- so it is of a controller of this configuration with that history
+abbrev pub AsSeen : Disk → (ControllerState → Type 0) → Type 0
+AsSeen d P = (s : ControllerState) × (s.config ≡ d.config) × (s.past ≡ disk_past d) × P s
 
 -- A disk of this configuration with these slots, whose controller has no history, with passes for so many hosts, of
 -- which none was made.
@@ -65,6 +75,18 @@ pub record IsSameDisk (d e : Disk) : Type 0 where
   pub passes : e.passes ≡ d.passes
   pub numbers : e.numbers ≡ d.numbers
   pub server : IsSame d.server e.server
+
+-- No step was made. The server has seen the whole history so far, which is legal and goes on from what it had seen; or
+-- no more than it had, where another handle had the controller.
+pub record HasLooked (d e : Disk) : Type 0 where
+  pub same : IsSameDisk d e
+  pub work : e.work ≡ d.work
+  pub knows : Knows ControllerInvariant d.server e.server
+  pub mine_are : mine e.server ≡ mine d.server
+
+-- another handle had the controller: the server has seen no more
+abbrev pub IsUnseen : Disk → Disk → Type 0
+IsUnseen d e = seen e.server ≡ seen d.server
 
 -- what a Fetch gives: the Work, which is kept; or why there is none
 abbrev pub FetchGives : Disk → Disk → ℕ → Result Work Declined → Type 0
@@ -115,6 +137,15 @@ pub record TaskTells (d e : Disk) (number : ℕ) : Type 0 where
   pub none : d.work ≡ None → (number ≡ 105) × (e.work ≡ None) × (e.server ≡ d.server)
   pub same : IsSameDisk d e
   pub makes : (w : Work) → d.work ≡ Some w → IsFinished d e w number ⊎ MakesTask d e w number
+
+-- The controller forgets what stands at the beginning of its history, which stays the same; or another caller had the
+-- lock.
+pub record ForgetTells (d e : Disk) (number : ℕ) : Type 0 where
+  pub same : IsSameDisk d e
+  pub work : e.work ≡ d.work
+  pub knows : Knows ControllerInvariant d.server e.server
+  pub mine : mine e.server ≡ mine d.server
+  pub told : (number ≡ 0) ⊎ ((number ≡ 12) × (seen e.server ≡ seen d.server))
 
 -- so many tasks of what is kept, each of them made, lead from one disk to the other
 abbrev pub Works : ℕ → Disk → Disk → Type 0

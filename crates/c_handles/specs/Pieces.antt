@@ -1,7 +1,24 @@
 -- Some lines of a text, from a place on.
-use Rattle.std.specs.Prelude.{List, Some, [], length, slice_get, take, ℕ, ◌+◌, ◌++◌, ◌<◌, ◌∷◌, ◌≡◌, ◌≤◌, ◌⊎◌}
+use Rattle.std.specs.Prelude.{List, Some, [], cond, drop, length, reverse, slice_get, suc, take, zero, ℕ, ◌+◌, ◌++◌}
+use Rattle.std.specs.Prelude.{◌<◌, ◌==◌, ◌∷◌, ◌≡◌, ◌≤◌, ◌⊎◌}
+use Rattle.controller_interface.specs.State.{ControllerState}
+use Rattle.history.specs.ConfigLine.{config_line}
+use Rattle.history.specs.Texts.{history_lines}
 use Rattle.line_text.specs.Lines.{with_feeds}
 use Rattle.c_handles.specs.declared.pieces.Piece.{Piece}
+
+-- the lines of a controller's history from this place on: place 0 is the configuration's, place k the k-th entry's
+abbrev pub lines_from : ControllerState → ℕ → List (List ℕ)
+lines_from s place = drop place (history_lines s.config (reverse s.past))
+
+-- the line at this place was forgotten
+abbrev pub IsForgotten : ControllerState → ℕ → Type 0
+IsForgotten s place = (0 < place) × (place ≤ s.forgotten)
+
+-- Those of them that are told: from the configuration's line on only that, where the entry behind it was forgotten.
+abbrev pub lines_told : ControllerState → ℕ → List (List ℕ)
+lines_told s zero = cond (s.forgotten == 0) (lines_from s 0) (config_line s.config ∷ [])
+lines_told s (suc k) = lines_from s (suc k)
 
 -- the line at this place was added to a text, with its line feed
 pub record AddsLine (lines : List (List ℕ)) (place : ℕ) (old new : List ℕ) : Type 0 where

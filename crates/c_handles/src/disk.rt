@@ -92,7 +92,8 @@ fn engine_of(
 }
 
 impl Disk {
-    ghost use Rattle.c_handles.specs.Disks.{FetchTells, Finishes, IsNewDisk, ServesDisk, TaskTells, disk_slots};
+    ghost use Rattle.c_handles.specs.Disks.{FetchTells, Finishes, ForgetTells, IsNewDisk, ServesDisk, TaskTells};
+    ghost use Rattle.c_handles.specs.Disks.{disk_slots};
 
     /// A controller of this configuration with no history, passes for so many hosts, and these slots.
     pub fn of(alloc: Global, config: Config, hosts: u16, slots: Range) -> Result<Disk, NoMemory>
@@ -170,6 +171,16 @@ impl Disk {
         }
         let told = self.task();
         ended(told)
+    }
+
+    /// The controller forgets the entries of its history before this place, from 0.
+    pub fn forget(&mut self, place: usize) -> u32
+        ensures { ForgetTells self.old self.new result }
+    {
+        match self.engine.forget(&mut self.server, place) {
+            Ok(()) => 0,
+            Err(_) => u32::from(Why::Busy.number()),
+        }
     }
 
     /// Fetches, where no Work is kept, and finishes the Work.

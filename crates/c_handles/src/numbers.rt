@@ -4,9 +4,13 @@ pub const NO_QUEUE: u32 = 1;
 
 pub const NO_MEMORY: u32 = 11;
 
+pub const BUSY: u32 = 12;
+
 pub const NO_HANDLE: u32 = 101;
 
 pub const IN_USE: u32 = 102;
+
+pub const NO_BLOCK: u32 = 104;
 
 pub const NOTHING_READY: u32 = 105;
 
@@ -19,3 +23,5 @@ pub const BAD_NUMBER: u32 = 115;
 pub const USED_NUMBER: u32 = 124;
 
 pub const USED_QUEUE: u32 = 125;
+
+pub const FORGOTTEN: u32 = 129;

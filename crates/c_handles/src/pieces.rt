@@ -1,13 +1,15 @@
 //! Lines of a history from a place on.
 
-ghost use Rattle.std.specs.Prelude.{◌++◌, ◌∷◌, ◌≡◌, ◌≤◌, [], IfOk, OnOk, drop, length};
+ghost use Rattle.std.specs.Prelude.{◌++◌, ◌+◌, ◌<◌, ◌∷◌, ◌≡◌, ◌≤◌, [], IfOk, MatchOption, None, Ok, OnOk, drop, false};
+ghost use Rattle.std.specs.Prelude.{length, true};
 ghost use Rattle.history.specs.ConfigLine.{config_line};
 ghost use Rattle.history.specs.Lines.{entry_line};
 ghost use Rattle.history.specs.Texts.{history_lines};
-ghost use Rattle.c_handles.specs.Pieces.{AddsLine, IsPiece};
+ghost use Rattle.c_handles.specs.Pieces.{AddsLine, IsForgotten, IsPiece, lines_told};
 
 use history::{Config, Entry, write_config_line, write_line};
 use std::alloc::{AllocError as NoMemory, Global};
+use step_core::Core;
 
 /// The text of some lines, each with its line feed.
 #[derive(Drop)]
@@ -96,4 +98,69 @@ pub fn piece_of(
         fit,
         next: from + count.saturating_sub(from),
     })
+}
+
+// A piece of the same lines, which stand so many places later.
+fn moved_on(piece: Piece, by: usize) -> Result<Piece, NoMemory>
+    ensures { IfOk result (λ p. p ≡ record piece { next = piece.next + by }) }
+{
+    let Piece { text, fit, next } = piece;
+    match next.checked_add(by) {
+        Some(next) => Ok(Piece { text, fit, next }),
+        None => Err(NoMemory),
+    }
+}
+
+// The lines of a controller's history from a place on, which isn't forgotten, that fit into so many bytes.
+fn piece_from(alloc: Global, core: &Core, from: usize, room: usize) -> Result<Piece, NoMemory>
+    requires { 0 < from → core.now.forgotten < from }
+    ensures { IfOk result (IsPiece (lines_told core.now from) from room) }
+{
+    let config = core.config();
+    let history = core.history();
+    let forgotten = history.forgotten();
+    if forgotten == 0 {
+        let piece = piece_of(alloc, &config, history.as_slice(), from, room)?;
+        return Ok(piece);
+    }
+    if from == 0 {
+        let first = piece_of(alloc, &config, &[], 0, room)?;
+        return Ok(first);
+    }
+    let kept = piece_of(alloc, &config, history.as_slice(), from - forgotten, room)?;
+    let moved = moved_on(kept, forgotten)?;
+    Ok(moved)
+}
+
+// Whether the entry at a place of a controller's history was forgotten.
+fn is_forgotten(core: &Core, place: usize) -> bool
+    ensures forgotten { result ≡ true → IsForgotten core.now place }
+    ensures kept { result ≡ false → 0 < place → core.now.forgotten < place }
+{
+    place > 0 && place <= core.history().forgotten()
+}
+
+/// The lines of a controller's history from a place on that fit into so many bytes; None where the entry at that place
+/// was forgotten. Where the first entry was, place 0 has the configuration's line alone.
+///
+/// # Errors
+///
+/// As `piece_of`.
+pub fn piece_told(
+    alloc: Global,
+    core: &Core,
+    from: usize,
+    room: usize,
+) -> Result<Option<Piece>, NoMemory>
+    ensures told { IfOk result (λ o. MatchOption o (IsForgotten core.now from)
+        (IsPiece (lines_told core.now from) from room)) }
+    ensures gone { IsForgotten core.now from → result ≡ Ok None }
+{
+    if is_forgotten(core, from) {
+        return Ok(None);
+    }
+    match piece_from(alloc, core, from, room) {
+        Ok(piece) => Ok(Some(piece)),
+        Err(NoMemory) => Err(NoMemory),
+    }
 }

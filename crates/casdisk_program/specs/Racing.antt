@@ -1,10 +1,12 @@
 -- What the command `race` writes.
-use Rattle.std.specs.Prelude.{Err, List, None, Ok, Option, Result, Some, ℕ}
+use Rattle.std.specs.Prelude.{Err, List, None, Ok, Option, Result, Some, [], codes, ℕ, ◌∷◌}
+use Rattle.casdisk_texts.specs.Objects.{AnswerFields, place_fields, plain_fields, with_rule}
 use Rattle.race.specs.Crashes.{Crashes}
 use Rattle.race.specs.Races.{Races}
 use Rattle.race.specs.Slots.{PrintsRounds, PrintsSlots, slots_of}
 use Rattle.race_numbers.specs.Races.{race_config}
 use Rattle.race_numbers.specs.declared.race.Race.{Race}
+use Rattle.casdisk_program.specs.declared.seed_objects.SeedAnswer.{SeedAnswer}
 use Rattle.casdisk_program.specs.declared.seeding.RaceEnd.{RaceEnd}
 use Rattle.casdisk_program.specs.declared.seeding.Turns.{Turns}
 
@@ -28,3 +30,13 @@ WritesInto race (Some dead) (Ok x) old new = Crashes (race_config race) (slots_o
 WritesInto race (Some dead) (Err (RaceEnd.Race f)) old new = ⊥
 WritesInto race (Some dead) (Err (RaceEnd.Crash f)) old new =
     Crashes (race_config race) (slots_of race) (Err f) old new
+
+-- the answer on a race
+abbrev pub race_fields : SeedAnswer → AnswerFields
+race_fields SeedAnswer.Legal = plain_fields (codes "legal")
+race_fields (SeedAnswer.BadAt place) = place_fields (codes "bad") place
+race_fields (SeedAnswer.SlotsAt place) = place_fields (codes "slots bad") place
+
+-- The fields of what is said of the race of a seed, which stands in the numbers.
+abbrev pub seed_fields : ℕ → SeedAnswer → AnswerFields
+seed_fields seed answer = with_rule (race_fields answer) None (seed ∷ [])

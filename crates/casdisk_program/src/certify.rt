@@ -4,12 +4,16 @@ use crate::failure::{Failure, end_fault, failure_of};
 use crate::grammar::Grammar;
 use crate::input::opened;
 use crate::kept::Kept;
-use casdisk_texts::{CertifyFault, Logged, RunFault, certify_text};
+use crate::objects::print_object;
+use casdisk_texts::{
+    CertifyFault, Logged, RunFault, certify_text, certify_verdict, verdict_object,
+};
 use std::alloc::Global;
 use std::io;
 use std::io::{Read, Write};
 use std::process::ExitCode;
 use std::rt::Files;
+use witness_check::TraceVerdict;
 
 /// Why a history wasn't compared with a trace; and the second line about it, where one was asked for.
 #[derive(Drop)]
@@ -36,17 +40,16 @@ pub(crate) fn of_history(failure: Failure) -> CertifyFailure {
     }
 }
 
-/// Compares a history with a trace, which were opened, writes what is said of that, and says whether it explains it.
-pub(crate) fn compared<T: Read + Drop, H: Read + Drop, W: Write>(
+// What came of comparing a history with a trace, with the reason where they weren't compared.
+fn failed_so<T: Read + Drop, H: Read + Drop>(
     alloc: Global,
-    logged: Logged,
     trace_file: &str,
-    trace: &mut Kept<T>,
+    trace: &Kept<T>,
     history_file: &str,
-    history: &mut Kept<H>,
-    writer: &mut W,
+    history: &Kept<H>,
+    done: Result<bool, CertifyFault>,
 ) -> Result<bool, CertifyFailure> {
-    match certify_text(alloc, logged, trace, history, writer) {
+    match done {
         Ok(answer) => Ok(answer),
         Err(CertifyFault::Trace(fault)) => Err(of_trace(failure_of(
             alloc,
@@ -66,25 +69,58 @@ pub(crate) fn compared<T: Read + Drop, H: Read + Drop, W: Write>(
     }
 }
 
+/// Compares a history with a trace, which were opened, writes what is said of that, and says whether it explains it.
+pub(crate) fn compared<T: Read + Drop, H: Read + Drop, W: Write>(
+    alloc: Global,
+    logged: Logged,
+    trace_file: &str,
+    trace: &mut Kept<T>,
+    history_file: &str,
+    history: &mut Kept<H>,
+    writer: &mut W,
+) -> Result<bool, CertifyFailure> {
+    let done = certify_text(alloc, logged, trace, history, writer);
+    failed_so(alloc, trace_file, trace, history_file, history, done)
+}
+
 // Compares a history with a trace, and says whether it explains it.
 fn certified<R: Files + Input + Print + AllocGlobal>(
     rt: &R,
     logged: Logged,
+    json: bool,
     why: bool,
     trace_file: &str,
     history_file: &str,
 ) -> Result<bool, CertifyFailure> {
     let mut trace = opened(rt, trace_file, why).map_err(of_trace)?;
     let mut history = opened(rt, history_file, why).map_err(of_history)?;
-    compared(
-        rt.alloc(),
-        logged,
-        trace_file,
-        &mut trace,
-        history_file,
-        &mut history,
-        &mut io::writer(rt),
-    )
+    let done = if json {
+        certify_as_object(rt, logged, &mut trace, &mut history)
+    } else {
+        certify_text(
+            rt.alloc(),
+            logged,
+            &mut trace,
+            &mut history,
+            &mut io::writer(rt),
+        )
+    };
+    failed_so(rt.alloc(), trace_file, &trace, history_file, &history, done)
+}
+
+// Compares a history with a trace, writes the verdict as an object, and says whether the trace is explained.
+fn certify_as_object<R: Print + AllocGlobal, T: Read, H: Read>(
+    rt: &R,
+    logged: Logged,
+    trace: &mut T,
+    history: &mut H,
+) -> Result<bool, CertifyFault> {
+    let verdict = certify_verdict(rt.alloc(), logged, trace, history)?;
+    match print_object(rt, verdict_object(rt.alloc(), verdict)) {
+        Ok(()) => Ok(verdict == TraceVerdict::Explained),
+        Err(RunFault::Output) => Err(CertifyFault::Output),
+        Err(fault) => Err(CertifyFault::History(fault)),
+    }
 }
 
 /// Says why a history wasn't compared with a trace, and gives the status of that.
@@ -106,11 +142,12 @@ pub(crate) fn logged_so(delayed: bool) -> Logged {
 pub(crate) fn certify_files<R: Files + Input + Print + Eprint + AllocGlobal>(
     rt: &R,
     logged: Logged,
+    json: bool,
     why: bool,
     trace: &str,
     history: &str,
 ) -> ExitCode {
-    match certified(rt, logged, why, trace, history) {
+    match certified(rt, logged, json, why, trace, history) {
         Ok(true) => ExitCode::from(0),
         Ok(false) => ExitCode::from(1),
         Err(failure) => ExitCode::from(end_certify(rt, failure)),

@@ -7,7 +7,7 @@ use crate::failure::{Failure, failure_of, unwritten};
 use crate::grammar::Grammar;
 use crate::input::opened;
 use casdisk_texts::RunFault;
-use file_commands::{TraceAnswer, observe_text};
+use file_commands::{TraceAnswer, observe_text, trace_object};
 use std::fs;
 use std::io::{Print, Read, Write, sink, writer};
 use std::rt::Files;
@@ -68,6 +68,7 @@ pub(crate) fn observe_file<R: Files + Input + Print + AllocGlobal>(
     rt: &R,
     files: ProofFiles<'_>,
     steps: u64,
+    json: bool,
     why: bool,
     trace: &str,
 ) -> Result<u8, Failure> {
@@ -82,7 +83,14 @@ pub(crate) fn observe_file<R: Files + Input + Print + AllocGlobal>(
     match answer {
         Ok(answer) => {
             let found = file_for(files, answer).map(|file| (file, text.as_slice()));
-            written(rt, found, said.as_slice())?;
+            if json {
+                let Ok(object) = trace_object(rt.alloc(), answer, said.as_slice()) else {
+                    return Err(Failure::from(RunFault::NoMemory));
+                };
+                written(rt, found, object.as_slice())?;
+            } else {
+                written(rt, found, said.as_slice())?;
+            }
             Ok(answer.status())
         }
         Err(fault) => Err(failure_of(rt.alloc(), trace, &input, Grammar::Trace, fault)),

@@ -1,28 +1,22 @@
 //! The whole program, over any runtime.
 
 use crate::certify::{certify_files, logged_so};
-use crate::counter::Counter;
+use crate::checking::{check_file, check_why_file, explain_file};
 use crate::drawing::{draw_file, lanes_of};
 use crate::failure::{Failure, end_failure, end_fault, failure_of};
 use crate::grammar::Grammar;
 use crate::in_words::tell_file;
-use crate::input::{opened, size_of};
+use crate::input::opened;
 use crate::observing::{ProofFiles, observe_file};
 use crate::output_buffer::BUFFER;
 use crate::racing::race_as_asked;
 use crate::randoms::random_file;
-use crate::reader::CountedReader;
 use crate::refute::refute_files;
 use crate::seeding::race_asked;
 use crate::shrinking::shrink_file;
 use crate::slots::{check_slots_file, explain_slots_file};
 use crate::tracing::trace_run;
-use crate::unmarked::Watched;
-use crate::words::{ExplainedWords, Unmarked};
-use casdisk_texts::{
-    Explained, RunFault, check_text, explain_text, follow_explained, follow_text, run_script,
-    tell_answer,
-};
+use casdisk_texts::{RunFault, run_script};
 use command_line::{Asked, ColorChoice, Shown, UsageFault, asked};
 use history::Kinds;
 use history_words::Paint;
@@ -99,6 +93,20 @@ fn paint_of<R: Env + AllocGlobal>(rt: &R, color: ColorChoice, terminal: bool) ->
     }
 }
 
+// Whether lines that are told are coloured; none where objects are told.
+fn lines_paint<R: Env + AllocGlobal>(
+    rt: &R,
+    color: ColorChoice,
+    json: bool,
+    terminal: bool,
+) -> Option<Paint> {
+    if json {
+        None
+    } else {
+        Some(paint_of(rt, color, terminal))
+    }
+}
+
 fn finish<R: Threads + Wait + Sync + Files + Clock + Env + Input + Print + Eprint + AllocGlobal>(
     rt: &R,
     what: Asked<'_>,
@@ -120,19 +128,22 @@ fn finish<R: Threads + Wait + Sync + Files + Clock + Env + Input + Print + Eprin
         } => run_file(rt, kinds, flush, why, file),
         Asked::Check {
             area: Some(area),
+            json,
             why,
             file,
             ..
-        } => Ok(check_slots_file(rt, area, why, file)),
+        } => Ok(check_slots_file(rt, area, json, why, file)),
         Asked::Explain {
             area: Some(area),
+            json,
             why,
             file,
             ..
-        } => Ok(explain_slots_file(rt, area, why, file)),
+        } => Ok(explain_slots_file(rt, area, json, why, file)),
         Asked::Check {
             follow,
             quiet,
+            json: false,
             why: false,
             file,
             ..
@@ -140,31 +151,36 @@ fn finish<R: Threads + Wait + Sync + Files + Clock + Env + Input + Print + Eprin
         Asked::Check {
             follow,
             quiet,
-            why: true,
-            file,
-            ..
-        } => check_why_file(rt, follow, told && !quiet, file),
-        Asked::Explain {
-            follow,
+            json,
             why,
             file,
             ..
-        } => explain_file(rt, follow, why, file),
+        } => check_why_file(rt, follow, told && !quiet, json, why, file),
+        Asked::Explain {
+            follow,
+            json,
+            why,
+            file,
+            ..
+        } => explain_file(rt, follow, json, why, file),
         Asked::Certify {
             delayed,
+            json,
             why,
             trace,
             history,
-        } => return certify_files(rt, logged_so(delayed), why, trace, history),
+        } => return certify_files(rt, logged_so(delayed), json, why, trace, history),
         Asked::Refute {
+            json,
             why,
             trace,
             refutation,
-        } => return refute_files(rt, why, trace, refutation),
+        } => return refute_files(rt, json, why, trace, refutation),
         Asked::Observe {
             witness,
             refutation,
             steps,
+            json,
             why,
             trace,
         } => observe_file(
@@ -174,12 +190,21 @@ fn finish<R: Threads + Wait + Sync + Files + Clock + Env + Input + Print + Eprin
                 refutation,
             },
             steps,
+            json,
             why,
             trace,
         ),
-        Asked::Tell { color, why, file } => {
-            tell_file(rt, paint_of(rt, color, terminals.output), why, file)
-        }
+        Asked::Tell {
+            color,
+            json,
+            why,
+            file,
+        } => tell_file(
+            rt,
+            lines_paint(rt, color, json, terminals.output),
+            why,
+            file,
+        ),
         Asked::Draw {
             from,
             to,
@@ -207,10 +232,11 @@ fn finish<R: Threads + Wait + Sync + Files + Clock + Env + Input + Print + Eprin
             bias,
             trace,
             quiet,
+            json,
             why: _,
         } => {
-            return match race_asked(&race, crash, seed, seeds, bias, trace) {
-                Ok(asked) => race_as_asked(rt, &race, asked, trace, told && !quiet),
+            return match race_asked(&race, crash, seed, seeds, bias, trace, json) {
+                Ok(asked) => race_as_asked(rt, &race, asked, trace, json, told && !quiet),
                 Err(words) => ExitCode::from(end_fault(rt, words, 2, None)),
             };
         }
@@ -259,112 +285,4 @@ fn run_buffered<R: Print + AllocGlobal, I: Read>(
         return Err(RunFault::Output);
     }
     done
-}
-
-// Checks a history, where it follows up to its first bad step, and gives the status 0 where it is legal, else 1.
-fn check_file<R: Files + Clock + Input + Print + Eprint + AllocGlobal>(
-    rt: &R,
-    follow: bool,
-    told: bool,
-    file: &str,
-) -> Result<u8, Failure> {
-    let size = if told { size_of(rt, file) } else { None };
-    let counter = Counter::new(rt, told, size);
-    let mut input = CountedReader::new(counter, opened(rt, file, false)?);
-    let mut output = io::writer(rt);
-    let answer = if follow {
-        follow_text(rt.alloc(), &mut input, &mut output)
-    } else {
-        check_text(rt.alloc(), &mut input, &mut output)
-    };
-    match answer {
-        Ok(true) => Ok(0),
-        Ok(false) => Ok(1),
-        Err(fault) => Err(failure_of(rt.alloc(), file, &input.source, Grammar::History, fault)),
-    }
-}
-
-// What is said of a history, where it follows up to its first bad step.
-fn explained_by<R: AllocGlobal, I: Read>(
-    rt: &R,
-    follow: bool,
-    input: &mut I,
-) -> Result<Explained, RunFault> {
-    if follow {
-        follow_explained(rt.alloc(), input)
-    } else {
-        explain_text(rt.alloc(), input)
-    }
-}
-
-// The status of what is said of a history.
-fn explained_status(explained: Explained) -> u8 {
-    if explained == Explained::Legal { 0 } else { 1 }
-}
-
-// The place of the first bad step, where there is one.
-fn bad_place(explained: Explained) -> Option<u64> {
-    match explained {
-        Explained::Legal => None,
-        Explained::BadAt(step) => Some(step.place),
-    }
-}
-
-// Says on standard error which rule a step breaks; where that takes no words, the answer stands alone.
-fn tell_reason<R: Eprint>(rt: &R, explained: Explained, unmarked: Option<Unmarked>) {
-    let _ = rt.eprintln(ExplainedWords {
-        explained,
-        unmarked,
-    });
-}
-
-// Checks a history in the same way, and says behind the answer, on standard error, which rule its first bad step
-// breaks.
-fn check_why_file<R: Files + Clock + Input + Print + Eprint + AllocGlobal>(
-    rt: &R,
-    follow: bool,
-    told: bool,
-    file: &str,
-) -> Result<u8, Failure> {
-    let size = if told { size_of(rt, file) } else { None };
-    let counter = Counter::new(rt, told, size);
-    let kept = CountedReader::new(counter, opened(rt, file, true)?);
-    let mut input = Watched::new(rt.alloc(), kept);
-    let explained = match explained_by(rt, follow, &mut input) {
-        Ok(explained) => explained,
-        Err(fault) => {
-            let read = &input.source.source;
-            return Err(failure_of(rt.alloc(), file, read, Grammar::History, fault));
-        }
-    };
-    tell_answer(bad_place(explained), &mut io::writer(rt))?;
-    if explained != Explained::Legal {
-        let unmarked = input.cause_of(explained);
-        tell_reason(rt, explained, unmarked);
-    }
-    Ok(explained_status(explained))
-}
-
-// Explains a history, where it follows up to its first bad step, and gives the status 0 where it is legal, else 1.
-fn explain_file<R: Files + Input + Print + AllocGlobal>(
-    rt: &R,
-    follow: bool,
-    why: bool,
-    file: &str,
-) -> Result<u8, Failure> {
-    let mut input = Watched::new(rt.alloc(), opened(rt, file, why)?);
-    let explained = match explained_by(rt, follow, &mut input) {
-        Ok(explained) => explained,
-        Err(fault) => {
-            return Err(failure_of(rt.alloc(), file, &input.source, Grammar::History, fault));
-        }
-    };
-    let words = ExplainedWords {
-        explained,
-        unmarked: input.cause_of(explained),
-    };
-    if rt.println(words).is_err() {
-        return Err(Failure::from(RunFault::Output));
-    }
-    Ok(explained_status(explained))
 }

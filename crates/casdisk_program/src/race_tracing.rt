@@ -45,7 +45,7 @@ fn in_memory(end: RaceEnd) -> RaceEnd
         RaceEnd::Race(RaceFault::Output) | RaceEnd::Crash(CrashFault::Output) => {
             RaceEnd::Race(RaceFault::NoMemory)
         }
-        RaceEnd::Race(RaceFault::NoMemory | RaceFault::BadAt(_)) => end,
+        RaceEnd::Race(RaceFault::NoMemory | RaceFault::BadAt(_) | RaceFault::Forgotten) => end,
         RaceEnd::Crash(
             CrashFault::NoMemory
             | CrashFault::NoHistory

@@ -21,13 +21,16 @@ pub fn race_as_asked<R: Threads + Wait + Sync + Clock + Print + Eprint + AllocGl
     race: &Race,
     asked: RaceAsked,
     trace: bool,
+    json: bool,
     told: bool,
 ) -> ExitCode {
     match asked {
-        RaceAsked::Many(first, last, draws) => match race_seeds(rt, race, first, last, &draws) {
-            Ok(()) => ExitCode::from(0),
-            Err(end) => end_race(rt, end),
-        },
+        RaceAsked::Many(first, last, draws) => {
+            match race_seeds(rt, json, race, first, last, &draws) {
+                Ok(()) => ExitCode::from(0),
+                Err(end) => end_race(rt, end),
+            }
+        }
         RaceAsked::One(turns) => {
             if trace {
                 trace_race(rt, race, turns)

@@ -3,7 +3,7 @@
 use crate::failure::{Failure, end_fault, failure_of};
 use crate::grammar::Grammar;
 use crate::input::opened;
-use file_commands::{RefuteFault, refute_text};
+use file_commands::{RefuteFault, refute_object, refute_text};
 use std::io;
 use std::process::ExitCode;
 use std::rt::Files;
@@ -36,6 +36,7 @@ fn of_refutation(failure: Failure) -> RefuteFailure {
 // Compares a refutation with a trace, and says whether the trace is refuted.
 fn refuted<R: Files + Input + Print + AllocGlobal>(
     rt: &R,
+    json: bool,
     why: bool,
     trace_file: &str,
     refutation_file: &str,
@@ -44,7 +45,12 @@ fn refuted<R: Files + Input + Print + AllocGlobal>(
     let mut refutation = opened(rt, refutation_file, why)
         .map_err(of_refutation)?
         .whole();
-    let done = refute_text(rt.alloc(), &mut trace, &mut refutation, &mut io::writer(rt));
+    let mut output = io::writer(rt);
+    let done = if json {
+        refute_object(rt.alloc(), &mut trace, &mut refutation, &mut output)
+    } else {
+        refute_text(rt.alloc(), &mut trace, &mut refutation, &mut output)
+    };
     match done {
         Ok(answer) => Ok(answer),
         Err(RefuteFault::Trace(fault)) => Err(of_trace(failure_of(
@@ -71,11 +77,12 @@ fn refuted<R: Files + Input + Print + AllocGlobal>(
 /// Compares a refutation with a trace, and gives the status 0 where it refutes it, 1 where not, else that of the fault.
 pub(crate) fn refute_files<R: Files + Input + Print + Eprint + AllocGlobal>(
     rt: &R,
+    json: bool,
     why: bool,
     trace: &str,
     refutation: &str,
 ) -> ExitCode {
-    match refuted(rt, why, trace, refutation) {
+    match refuted(rt, json, why, trace, refutation) {
         Ok(true) => ExitCode::from(0),
         Ok(false) => ExitCode::from(1),
         Err(RefuteFailure { fault, why }) => {

@@ -2,8 +2,12 @@
 
 ghost use Rattle.casdisk_program.specs.Racing.{WritesInto, deaths_in};
 
+use crate::objects::print_object;
+use crate::seed_objects::{SeedAnswer, SeedWords, seed_object};
+use casdisk_texts::RunFault;
 use race::{CrashFault, RaceFault, run_crash_race, run_race, run_seeded_race};
 use race_numbers::{Bias, Race};
+use std::alloc::{AllocError as NoMemory, Global};
 use std::io::{Result as IoResult, Write};
 use std::sync::Wait;
 use std::thread::Threads;
@@ -20,6 +24,8 @@ const NO_TURNS: &str = "error: '--bias' is for '--seed', '--seeds' and '--crash'
 const NO_CRASH: &str = "error: '--crash' is a number from 1, below that of the hosts";
 
 const NO_TRACES: &str = "error: '--trace' is for one race";
+
+const NO_OBJECTS: &str = "error: '--json' is for '--seeds'";
 
 /// What the turns of a race are drawn by: the weights, and how many hosts die.
 #[derive(Clone, Copy)]
@@ -137,7 +143,11 @@ pub fn race_asked(
     seeds: Option<&str>,
     bias: Option<&str>,
     trace: bool,
+    json: bool,
 ) -> Result<RaceAsked, &'static str> {
+    if json && seeds.is_none() {
+        return Err(NO_OBJECTS);
+    }
     let weights = weights_of(bias.unwrap_or("host=1")).ok_or(NO_WEIGHTS)?;
     let draws = Draws {
         bias: weights,
@@ -224,43 +234,73 @@ impl Write for Nowhere {
     }
 }
 
+// The object of what is said of the race of a seed.
+fn object_of(alloc: Global, seed: u64, answer: SeedAnswer) -> Result<Vec<u8>, NoMemory> {
+    let words = SeedWords { seed, answer };
+    let text = format!(in alloc; "{words}")?;
+    seed_object(alloc, seed, answer, text.as_bytes())
+}
+
+// Writes what is said of the race of a seed, in words.
+fn print_words<R: Print>(rt: &R, seed: u64, answer: SeedAnswer) -> Result<(), RaceFault> {
+    match rt.println(SeedWords { seed, answer }) {
+        Ok(()) => Ok(()),
+        Err(_) => Err(RaceFault::Output),
+    }
+}
+
+// Writes what is said of the race of a seed: a line, or an object.
+fn print_seed<R: Print + AllocGlobal>(
+    rt: &R,
+    json: bool,
+    seed: u64,
+    answer: SeedAnswer,
+) -> Result<(), RaceFault> {
+    if !json {
+        return print_words(rt, seed, answer);
+    }
+    match print_object(rt, object_of(rt.alloc(), seed, answer)) {
+        Ok(()) => Ok(()),
+        Err(RunFault::NoMemory) => Err(RaceFault::NoMemory),
+        Err(_) => Err(RaceFault::Output),
+    }
+}
+
 // The race of a seed, and what is said of it.
 fn told<R: Wait + Print + AllocGlobal>(
     rt: &R,
+    json: bool,
     race: &Race,
     seed: u64,
     draws: &Draws,
 ) -> Result<(), RaceEnd> {
-    match drawn_into(rt, race, seed, draws, &mut Nowhere) {
-        Ok(()) => {}
-        Err(RaceEnd::Race(RaceFault::BadAt(place))) => {
-            let _ = rt.println(format_args!("seed {seed}: bad at {place}"));
-            return Err(RaceEnd::Race(RaceFault::BadAt(place)));
-        }
-        Err(RaceEnd::Crash(CrashFault::SlotsAt(place))) => {
-            let _ = rt.println(format_args!("seed {seed}: slots broken at {place}"));
-            return Err(RaceEnd::Crash(CrashFault::SlotsAt(place)));
-        }
+    let done = drawn_into(rt, race, seed, draws, &mut Nowhere);
+    let answer = match done {
+        Ok(()) => SeedAnswer::Legal,
+        Err(RaceEnd::Race(RaceFault::BadAt(place))) => SeedAnswer::BadAt(place),
+        Err(RaceEnd::Crash(CrashFault::SlotsAt(place))) => SeedAnswer::SlotsAt(place),
         Err(end) => return Err(end),
-    }
-    match rt.println(format_args!("seed {seed}: legal")) {
-        Ok(()) => Ok(()),
-        Err(_) => Err(RaceEnd::Race(RaceFault::Output)),
-    }
+    };
+    let printed = print_seed(rt, json, seed, answer);
+    // (where a race is wrong, that is told, whatever the output took)
+    done?;
+    printed?;
+    Ok(())
 }
 
-/// A race by each of these seeds, each told in a line.
+/// A race by each of these seeds, each told in a line or by an object.
 pub(crate) fn race_seeds<R: Wait + Print + AllocGlobal>(
     rt: &R,
+    json: bool,
     race: &Race,
     first: u64,
     last: u64,
     draws: &Draws,
 ) -> Result<(), RaceEnd> {
     for seed in first..last {
-        told(rt, race, seed, draws)?;
+        told(rt, json, race, seed, draws)?;
     }
-    told(rt, race, last, draws)
+    told(rt, json, race, last, draws)
 }
 
 /// Says why a race gave no history, and gives the status with which the program then ends.

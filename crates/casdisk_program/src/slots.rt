@@ -1,16 +1,21 @@
 //! Histories beside an area of slots.
 
+use crate::checking::print_explained;
 use crate::failure::{end_fault, failure_of};
 use crate::grammar::Grammar;
 use crate::input::{Source, opened};
 use crate::kept::Kept;
+use crate::objects::print_object;
 use crate::unmarked::Watched;
-use crate::words::{ExplainedWords, Unmarked, WrongStepWords};
+use crate::words::WrongStepWords;
 use casdisk_texts::{Explained, RunFault};
 use command_line::SlotArea;
-use file_commands::{ExplainedSlots, SlotsFault, WrongStep, check_slots, explain_slots};
+use file_commands::{
+    ExplainedSlots, SlotsFault, WrongStep, check_slots, explain_slots, slots_answer_object,
+    slots_object,
+};
 use nvme_model::array::Range;
-use std::alloc::Global;
+use std::alloc::{AllocError as NoMemory, Global};
 use std::io;
 use std::io::Read;
 use std::rt::Files;
@@ -53,11 +58,25 @@ fn slots_input<R: Files + Input + Eprint + AllocGlobal>(
     }
 }
 
+// Checks a history and the discipline of these slots, writes the answer as an object, and says whether all is right.
+fn check_as_object<R: Print + AllocGlobal, I: Read>(
+    rt: &R,
+    slots: Range,
+    input: &mut I,
+) -> Result<bool, SlotsFault> {
+    let explained = explain_slots(rt.alloc(), slots, input)?;
+    match print_object(rt, slots_answer_object(rt.alloc(), explained)) {
+        Ok(()) => Ok(explained == ExplainedSlots::Legal),
+        Err(fault) => Err(SlotsFault::Run(fault)),
+    }
+}
+
 /// Checks a history and the discipline of these slots, and gives the status 0 where it is legal and keeps that, 1 where
 /// not, else that of the fault, whose words go to standard error.
 pub(crate) fn check_slots_file<R: Files + Input + Print + Eprint + AllocGlobal>(
     rt: &R,
     area: SlotArea,
+    json: bool,
     why: bool,
     file: &str,
 ) -> u8 {
@@ -66,53 +85,72 @@ pub(crate) fn check_slots_file<R: Files + Input + Print + Eprint + AllocGlobal>(
         Ok(input) => input,
         Err(status) => return status,
     };
-    let mut output = io::writer(rt);
-    match check_slots(alloc, blocks_of(area), &mut input, &mut output) {
+    let answer = if json {
+        check_as_object(rt, blocks_of(area), &mut input)
+    } else {
+        check_slots(alloc, blocks_of(area), &mut input, &mut io::writer(rt))
+    };
+    match answer {
         Ok(true) => 0,
         Ok(false) => 1,
         Err(fault) => end_slots(rt, fault, why_of(alloc, file, &input, fault)),
     }
 }
 
+// The object of what is wrong with how a history uses slots from this block on.
+fn wrong_object(alloc: Global, first: u64, step: WrongStep) -> Result<Vec<u8>, NoMemory> {
+    let words = WrongStepWords { first, step };
+    let text = format!(in alloc; "{words}")?;
+    let explained = ExplainedSlots::SlotsBadAt(step);
+    slots_object(alloc, first, explained, text.as_bytes())
+}
+
 // Says what is wrong with how a history uses slots from this block on, in words.
-fn tell_wrong<R: Print>(rt: &R, first: u64, step: WrongStep) -> Result<(), io::Error> {
-    rt.println(WrongStepWords { first, step })
+fn print_wrong<R: Print>(rt: &R, first: u64, step: WrongStep) -> Result<(), RunFault> {
+    match rt.println(WrongStepWords { first, step }) {
+        Ok(()) => Ok(()),
+        Err(_) => Err(RunFault::Output),
+    }
 }
 
-// Says what an explanation of steps says, with the unit that ended without a mark.
-fn tell_words<R: Print>(
+// Says it in words, or as an object.
+fn tell_wrong<R: Print + AllocGlobal>(
     rt: &R,
-    explained: Explained,
-    unmarked: Option<Unmarked>,
-) -> Result<(), io::Error> {
-    rt.println(ExplainedWords {
-        explained,
-        unmarked,
-    })
+    json: bool,
+    first: u64,
+    step: WrongStep,
+) -> Result<(), RunFault> {
+    if json {
+        print_object(rt, wrong_object(rt.alloc(), first, step))
+    } else {
+        print_wrong(rt, first, step)
+    }
 }
 
-// Says what is wrong with the steps of a history, in words.
-fn tell_steps<R: Print, I: Read + Drop>(
+// Says what is wrong with the steps of a history.
+fn tell_steps<R: Print + AllocGlobal, I: Read + Drop>(
     rt: &R,
+    json: bool,
     input: &Watched<I>,
     explained: Explained,
-) -> Result<(), io::Error> {
+) -> Result<(), RunFault> {
     let told = explained;
     let unmarked = input.cause_of(told);
-    tell_words(rt, explained, unmarked)
+    print_explained(rt, json, explained, unmarked)
 }
 
-// Says what is wrong with a history, in words.
-fn tell_explained<R: Print, I: Read + Drop>(
+// Says what is wrong with a history.
+fn tell_explained<R: Print + AllocGlobal, I: Read + Drop>(
     rt: &R,
+    json: bool,
     first: u64,
     input: &Watched<I>,
     explained: ExplainedSlots,
-) -> Result<(), io::Error> {
+) -> Result<(), RunFault> {
     match explained {
-        ExplainedSlots::Legal => tell_steps(rt, input, Explained::Legal),
-        ExplainedSlots::BadAt(step) => tell_steps(rt, input, Explained::BadAt(step)),
-        ExplainedSlots::SlotsBadAt(step) => tell_wrong(rt, first, step),
+        ExplainedSlots::Legal => tell_steps(rt, json, input, Explained::Legal),
+        ExplainedSlots::BadAt(step) => tell_steps(rt, json, input, Explained::BadAt(step)),
+        ExplainedSlots::SlotsBadAt(step) => tell_wrong(rt, json, first, step),
     }
 }
 
@@ -120,6 +158,7 @@ fn tell_explained<R: Print, I: Read + Drop>(
 pub(crate) fn explain_slots_file<R: Files + Input + Print + Eprint + AllocGlobal>(
     rt: &R,
     area: SlotArea,
+    json: bool,
     why: bool,
     file: &str,
 ) -> u8 {
@@ -129,7 +168,7 @@ pub(crate) fn explain_slots_file<R: Files + Input + Print + Eprint + AllocGlobal
         Err(status) => return status,
     };
     match explain_slots(alloc, blocks_of(area), &mut input) {
-        Ok(explained) => match tell_explained(rt, area.first, &input, explained) {
+        Ok(explained) => match tell_explained(rt, json, area.first, &input, explained) {
             Ok(()) => {
                 if explained == ExplainedSlots::Legal {
                     0
@@ -137,7 +176,7 @@ pub(crate) fn explain_slots_file<R: Files + Input + Print + Eprint + AllocGlobal
                     1
                 }
             }
-            Err(_) => end_slots(rt, SlotsFault::Run(RunFault::Output), None),
+            Err(fault) => end_slots(rt, SlotsFault::Run(fault), None),
         },
         Err(fault) => end_slots(rt, fault, why_of(alloc, file, &input.source, fault)),
     }

@@ -1,5 +1,5 @@
 -- A step that was made or refused, and what was printed of it.
-use Rattle.std.proofs.Common.{◌≡◌, ◌≢◌, ℕ, List, [], ◌∷◌, None, Some, refl, sym, ap, subst}
+use Rattle.std.proofs.Common.{◌≡◌, ◌≢◌, ◌≤◌, ℕ, List, [], ◌∷◌, None, Some, arith, length, refl, sym, ap, subst}
 use Rattle.std.specs.Prelude.{Option, Result, Ok, Err, OnOk, OnErr, unwrap_or}
 use Rattle.std.specs.Io.KnownBytes.{Appends}
 use Rattle.line_text.specs.Known.{AppendsFront}
@@ -43,22 +43,27 @@ config_served old new step (Err r) s = ap (λ (x : ControllerState). x.config) s
 
 module _ (kinds : ℕ) (old new : ControllerState) (step : Step) (w v : Option (List ℕ)) where
   module _ (r : Result (Unit {0}) WriteFault) (none : refusal old.config old.past step ≡ None)
-      (made : new ≡ state_after old step new.room) where
-    pub made_done : ((e : Entry) (past : Past) → new.past ≡ e ∷ past → OnOk r (Appends w v (entry_text kinds e)))
+      (made : new ≡ state_after old step new.room) (few : old.forgotten ≤ length old.past) where
+    -- the new entry isn't forgotten
+    kept : new.forgotten ≤ length old.past
+    kept = omega (arith, few, ap (λ (x : ControllerState). x.forgotten) made)
+
+    pub made_done : ((e : Entry) (past : Past) → new.past ≡ e ∷ past → new.forgotten ≤ length past
+        → OnOk r (Appends w v (entry_text kinds e)))
         → OnOk r (SaysAll (step_says kinds old.config old.past step) new.past w v)
     made_done told =
         on_ok_then r (λ (p : Appends w v (entry_text kinds (next_entry old.config old.past step))).
         subst (λ o. SaysAll (step_by kinds old.config old.past step o) new.past w v) (sym none)
         (ap (λ (x : ControllerState). x.past) made, p))
-        (told (next_entry old.config old.past step) old.past (ap (λ (x : ControllerState). x.past) made))
+        (told (next_entry old.config old.past step) old.past (ap (λ (x : ControllerState). x.past) made) kept)
 
-    pub made_stopped : ((e : Entry) (past : Past) → new.past ≡ e ∷ past
+    pub made_stopped : ((e : Entry) (past : Past) → new.past ≡ e ∷ past → new.forgotten ≤ length past
         → OnErr r (AppendsFront w v (entry_text kinds e)))
         → OnErr r (AppendsFront w v (step_says kinds old.config old.past step).1)
     made_stopped told =
         on_err_then r (λ (p : AppendsFront w v (entry_text kinds (next_entry old.config old.past step))).
         subst (λ o. AppendsFront w v (step_by kinds old.config old.past step o).1) (sym none) p)
-        (told (next_entry old.config old.past step) old.past (ap (λ (x : ControllerState). x.past) made))
+        (told (next_entry old.config old.past step) old.past (ap (λ (x : ControllerState). x.past) made) kept)
 
   module _ (why : Why) (is : why ≡ unwrap_or (refusal old.config old.past step) Why.NoMemory) where
     pub refused_done : (r : Result (Unit {0}) WriteFault) → new ≡ record old { room = new.room }

@@ -1,8 +1,8 @@
 -- What is said of a trace and a history, from what the reading of their lines gave.
-use Rattle.std.proofs.Common.{◌≡◌, ◌≢◌, ℕ, List, [], ◌∷◌, ◌++◌, None, Some, sym, ap, ◌∙◌, subst}
+use Rattle.std.proofs.Common.{◌≡◌, ◌≢◌, ℕ, List, [], ◌∷◌, ◌++◌, None, Some, refl, sym, ap, ◌∙◌, subst}
 use mathlib.Core.List.{reverse}
-use Rattle.std.specs.Prelude.{Bool, IfSome, Option, Result, Ok, Err}
-use Rattle.std.specs.Io.KnownBytes.{IsAtEnd}
+use Rattle.std.specs.Prelude.{Bool, IfErr, IfOk, IfSome, Option, Result, Ok, Err}
+use Rattle.std.specs.Io.KnownBytes.{Appends, IsAtEnd}
 use Rattle.std.proofs.KnownBytes.{Keeps-refl}
 use Rattle.std.proofs.lemmas.List.{reverse-append, reverse-reverse}
 use Rattle.nvme_model.specs.History.{Past}
@@ -12,8 +12,9 @@ use Rattle.trace.specs.Aside.{history_numbers}
 use Rattle.trace.specs.declared.options.TraceOptions.{TraceOptions}
 use Rattle.trace.specs.declared.seen.Seen.{Seen}
 use Rattle.witness_check.specs.declared.comparison.TraceVerdict.{TraceVerdict}
-use Rattle.casdisk_texts.specs.Certified.{CertifiesText, HasTextVerdict, HaveOtherConfigs, IsUncompared, IsVerdictAs}
-use Rattle.casdisk_texts.specs.Certified.{IsVerdictOf, TellsVerdict}
+use Rattle.line_text.specs.Known.{AppendsFront}
+use Rattle.casdisk_texts.specs.Certified.{CertifiesText, GivesVerdict, HasTextVerdict, HaveOtherConfigs, IsUncompared}
+use Rattle.casdisk_texts.specs.Certified.{IsUnsaid, IsVerdictAs, IsVerdictOf, TellsVerdict, explains, verdict_text}
 use Rattle.casdisk_texts.specs.declared.logged.Logged.{Logged}
 use Rattle.casdisk_texts.specs.Files.{HasHistory, IsUnread, file_of}
 use Rattle.casdisk_texts.specs.Traces.{HasTrace, options_of, trace_in}
@@ -71,18 +72,6 @@ module _ (logged : Logged) (o : TraceOptions) (b c d : ConfigNumbers) (things : 
   has_verdict v Holds (Some t) (Some h) trace history same says holds =
       (v, verdict_of v t h trace history same says, holds)
 
-  pub certified : (v : TraceVerdict) (res : Result Bool CertifyFault) (t u h l x y : Option (List ℕ))
-      → IsAtEnd u × IfSome t IsTrace → IsAtEnd l × IfSome h IsHistory
-      → (c ≡ d) × IsVerdictAs logged o c (reverse entries) things v → TellsVerdict v res x y
-      → CertifiesText logged res t u h l x y
-  certified v (Ok answer) t u h l x y trace history says told =
-      (trace.0, history.0, has_verdict v _ t h trace.1 history.1 says.0 says.1 told)
-  certified v (Err (Trace f)) t u h l x y trace history says told = absurd told
-  certified v (Err (History f)) t u h l x y trace history says told = absurd told
-  certified v (Err OtherConfig) t u h l x y trace history says told = absurd told
-  certified v (Err Output) t u h l x y trace history says told =
-      has_verdict v _ t h trace.1 history.1 says.0 says.1 told
-
   two_configs : (t h : Option (List ℕ)) → IfSome t IsTrace → IfSome h IsHistory → c ≢ d
       → IfSome t (λ y. IfSome h (λ x. HaveOtherConfigs y x))
   two_configs None h trace history other = tt
@@ -96,10 +85,47 @@ module _ (logged : Logged) (o : TraceOptions) (b c d : ConfigNumbers) (things : 
   )
 
   -- nothing is said
-  pub uncertified : (f : CertifyFault) (t u h l x : Option (List ℕ)) → IfSome t IsTrace → IfSome h IsHistory
-      → IsUncompared c d f → CertifiesText logged (Err f) t u h l x x
-  uncertified (Trace f) t u h l x trace history failed = absurd failed
-  uncertified (History f) t u h l x trace history failed =
-      (subst (λ (g : RunFault). IsUnread g h l) (sym failed) tt, Keeps-refl x)
-  uncertified OtherConfig t u h l x trace history failed = (two_configs t h trace history failed, Keeps-refl x)
-  uncertified Output t u h l x trace history failed = absurd failed
+  uncertified : (f : CertifyFault) (t u h l : Option (List ℕ)) → IfSome t IsTrace → IfSome h IsHistory
+      → IsUncompared c d f → IsUnsaid f t u h l
+  uncertified (Trace f) t u h l trace history failed = absurd failed
+  uncertified (History f) t u h l trace history failed = subst (λ (g : RunFault). IsUnread g h l) (sym failed) tt
+  uncertified OtherConfig t u h l trace history failed = two_configs t h trace history failed
+  uncertified Output t u h l trace history failed = absurd failed
+
+  -- the verdict, or why there is none
+  pub given : (r : Result TraceVerdict CertifyFault) (t u h l : Option (List ℕ)) → IsAtEnd u × IfSome t IsTrace
+      → IsAtEnd l × IfSome h IsHistory → IfOk r (λ v. (c ≡ d) × IsVerdictAs logged o c (reverse entries) things v)
+      → IfErr r (IsUncompared c d) → GivesVerdict logged r t u h l
+  given (Ok v) t u h l trace history says failed =
+      (trace.0, history.0, has_verdict v (λ w. w ≡ v) t h trace.1 history.1 says.0 says.1 refl)
+  given (Err f) t u h l trace history says failed = uncertified f t u h l trace.1 history.1 failed
+
+-- ---- the verdict is told
+
+module _ (logged : Logged) where
+  -- what follows of a verdict
+  verdict_then : (P Q : TraceVerdict → Type 0) → ((v : TraceVerdict) → P v → Q v) → (t h : Option (List ℕ))
+      → HasTextVerdict logged P t h → HasTextVerdict logged Q t h
+  verdict_then P Q f None h x = tt
+  verdict_then P Q f (Some t) None x = tt
+  verdict_then P Q f (Some t) (Some h) x = (x.0, x.1, f x.0 x.2)
+
+  pub told : (v : TraceVerdict) (res : Result Bool CertifyFault) (t u h l x y : Option (List ℕ))
+      → GivesVerdict logged (Ok v) t u h l → TellsVerdict v res x y → CertifiesText logged res t u h l x y
+  told v (Ok answer) t u h l x y gives tells =
+      let Told : TraceVerdict → Type 0 = λ w. (answer ≡ explains w) × Appends x y (verdict_text w) in
+      (gives.0, gives.1, verdict_then (λ w. w ≡ v) Told (λ w is. subst Told (sym is) tells) t h gives.2)
+  told v (Err (Trace f)) t u h l x y gives tells = absurd tells
+  told v (Err (History f)) t u h l x y gives tells = absurd tells
+  told v (Err OtherConfig) t u h l x y gives tells = absurd tells
+  told v (Err Output) t u h l x y gives tells =
+      let Told : TraceVerdict → Type 0 = λ w. AppendsFront x y (verdict_text w) in
+      verdict_then (λ w. w ≡ v) Told (λ w is. subst Told (sym is) tells) t h gives.2
+
+  -- or nothing is
+  pub untold : (f : CertifyFault) (t u h l x : Option (List ℕ)) → GivesVerdict logged (Err f) t u h l
+      → CertifiesText logged (Err f) t u h l x x
+  untold (Trace f) t u h l x gives = (gives, Keeps-refl x)
+  untold (History f) t u h l x gives = (gives, Keeps-refl x)
+  untold OtherConfig t u h l x gives = (gives, Keeps-refl x)
+  untold Output t u h l x gives = absurd gives

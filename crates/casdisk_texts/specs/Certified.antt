@@ -88,6 +88,13 @@ IsUnsaid OtherConfig trace trace_left history history_left =
     IfSome trace (λ t. IfSome history (λ h. HaveOtherConfigs t h))
 IsUnsaid Output trace trace_left history history_left = ⊥
 
+-- By what was answered on two texts: their verdict, and both readers at their ends; or why there is none.
+abbrev pub GivesVerdict : Logged → Result TraceVerdict CertifyFault →
+    (trace trace_left history history_left : Option (List ℕ)) → Type 0
+GivesVerdict logged (Ok v) trace trace_left history history_left =
+    IsAtEnd trace_left × IsAtEnd history_left × HasTextVerdict logged (λ w. w ≡ v) trace history
+GivesVerdict logged (Err f) trace trace_left history history_left = IsUnsaid f trace trace_left history history_left
+
 -- By what was answered on two texts: the line of their verdict, and both readers at their ends; nothing; or a beginning
 -- of that line.
 abbrev pub CertifiesText : Logged → Result Bool CertifyFault →

@@ -13,3 +13,6 @@ pub mod Kinds
 pub mod Traces
 pub mod Certified
 pub mod Tracing
+pub mod Objects
+pub mod RuleNames
+pub mod AnswerObjects

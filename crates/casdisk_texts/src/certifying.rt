@@ -4,7 +4,8 @@ ghost use Rattle.std.specs.Prelude.{◌≡◌, ◌↔◌, IfErr, IfOk, OnErr, On
 ghost use Rattle.std.specs.Io.KnownBytes.{Appends};
 ghost use Rattle.line_text.specs.Known.{AppendsFront};
 ghost use Rattle.witness_check.specs.declared.comparison.TraceVerdict.TheVariants.{Unlike};
-ghost use Rattle.casdisk_texts.specs.Certified.{CertifiesText, IsUncompared, IsVerdictAs, TellsVerdict, verdict_text};
+ghost use Rattle.casdisk_texts.specs.Certified.{CertifiesText, GivesVerdict, IsUncompared, IsVerdictAs, TellsVerdict};
+ghost use Rattle.casdisk_texts.specs.Certified.{verdict_text};
 ghost use Rattle.casdisk_texts.specs.Certified.{difference_text as the_difference_text};
 
 use crate::certify_fault::CertifyFault;
@@ -99,7 +100,7 @@ fn send_unlike<W: Write>(place: u64, difference: Difference, writer: &mut W) -> 
 }
 
 // Writes the line of a verdict.
-fn send_verdict<W: Write>(verdict: TraceVerdict, writer: &mut W) -> IoResult<()>
+pub(crate) fn send_verdict<W: Write>(verdict: TraceVerdict, writer: &mut W) -> IoResult<()>
     ensures whole { OnOk result (Appends (W.contents writer.old) (W.contents writer.new) (verdict_text verdict)) }
     ensures front { OnErr result
         (AppendsFront (W.contents writer.old) (W.contents writer.new) (verdict_text verdict)) }
@@ -125,6 +126,35 @@ fn tell_verdict<W: Write>(verdict: TraceVerdict, writer: &mut W) -> Result<bool,
     }
 }
 
+/// Reads a trace to its reader's end, and then a history to its own, and gives the verdict whose line `certify_text`
+/// writes.
+///
+/// # Errors
+///
+/// Those of `certify_text`, but for `Output`.
+pub fn certify_verdict<T: Read, R: Read>(
+    alloc: Global,
+    logged: Logged,
+    trace: &mut T,
+    history: &mut R,
+) -> Result<TraceVerdict, CertifyFault>
+    ensures gives { GivesVerdict logged result (T.remaining trace.old) (T.remaining trace.new)
+        (R.remaining history.old) (R.remaining history.new) }
+{
+    let seen = match read_trace(alloc, trace) {
+        Ok(seen) => seen,
+        Err(fault) => return Err(CertifyFault::Trace(fault)),
+    };
+
+    // The history is kept, where a `Comparison` keeps none: what a line means to the loop over
+    // lines is said of a configuration and a history alone, and a trace is neither.
+    let told = match read_history(alloc, history) {
+        Ok(told) => told,
+        Err(fault) => return Err(CertifyFault::History(fault)),
+    };
+    compare(alloc, logged, &seen, &told)
+}
+
 /// Reads a trace to its reader's end, and then a history to its own, of the configuration that a history of that trace
 /// has: the same, or one with a queue pair more where the trace says that contents are unknown. It writes one line:
 /// `explained` where the history is legal and was seen as the trace; `bad at K` where it isn't legal, with the first
@@ -147,17 +177,6 @@ pub fn certify_text<T: Read, R: Read, W: Write>(
     ensures certifies { CertifiesText logged result (T.remaining trace.old) (T.remaining trace.new)
         (R.remaining history.old) (R.remaining history.new) (W.contents writer.old) (W.contents writer.new) }
 {
-    let seen = match read_trace(alloc, trace) {
-        Ok(seen) => seen,
-        Err(fault) => return Err(CertifyFault::Trace(fault)),
-    };
-
-    // The history is kept, where a `Comparison` keeps none: what a line means to the loop over
-    // lines is said of a configuration and a history alone, and a trace is neither.
-    let told = match read_history(alloc, history) {
-        Ok(told) => told,
-        Err(fault) => return Err(CertifyFault::History(fault)),
-    };
-    let verdict = compare(alloc, logged, &seen, &told)?;
+    let verdict = certify_verdict(alloc, logged, trace, history)?;
     tell_verdict(verdict, writer)
 }

@@ -2,6 +2,7 @@
 //! explained.
 #![tactic(auto)]
 
+mod answer_objects;
 mod certify_fault;
 mod certifying;
 mod checking;
@@ -15,15 +16,18 @@ mod judging;
 mod kinds;
 mod logged;
 mod meaning;
+mod object;
 mod performing;
 mod printing;
+mod rule_names;
 mod running;
 mod script;
 mod trace_reading;
 mod tracing;
 
+pub use crate::answer_objects::{answer_object, explained_object, verdict_object};
 pub use crate::certify_fault::CertifyFault;
-pub use crate::certifying::certify_text;
+pub use crate::certifying::{certify_text, certify_verdict};
 pub use crate::checking::{check_text, tell_answer};
 pub use crate::explaining::{BadStep, Explained, explain_text};
 pub use crate::fault::RunFault;
@@ -34,6 +38,7 @@ pub use crate::judging::{FirstBad, Judge};
 pub use crate::kinds::kinds_of;
 pub use crate::logged::Logged;
 pub use crate::meaning::{EntryMeaning, LineMeaning, Taken, WriteFault};
+pub use crate::object::{Fields, object_line};
 pub use crate::running::run_lines;
 pub use crate::script::run_script;
 pub use crate::trace_reading::{Trace, read_trace};

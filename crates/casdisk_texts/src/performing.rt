@@ -1,6 +1,6 @@
 //! What a controller does of the lines of a script.
 
-ghost use Rattle.std.specs.Prelude.{◌≡◌, OnOk, OnErr, []};
+ghost use Rattle.std.specs.Prelude.{◌≡◌, ◌≤◌, OnOk, OnErr, [], length};
 ghost use Rattle.nvme_model.specs.History.{Past};
 ghost use Rattle.nvme_model.specs.declared.entry.Entry.{Entry};
 ghost use Rattle.std.specs.Io.KnownBytes.{Appends};
@@ -25,7 +25,8 @@ use std::alloc::Global;
 use std::io::Write;
 use step_core::{Answer, Core, Refused};
 
-/// A controller that does what the lines of a script say, and prints the lines of these kinds.
+/// A controller that does what the lines of a script say, and prints the lines of these kinds. It forgets each step
+/// once it is printed.
 #[derive(Drop)]
 pub(crate) struct Performer {
     pub(crate) alloc: Global,
@@ -77,12 +78,14 @@ impl Performer {
         send_text(self.text.as_slice(), writer)
     }
 
-    // Prints the newest entry.
+    // Prints the newest entry, which isn't forgotten.
     fn tell_entry<W: Write>(&mut self, writer: &mut W) -> Result<(), WriteFault>
         ensures same { (self.new.core ≡ self.old.core) × (self.new.kinds ≡ self.old.kinds) }
         ensures told { (e : Entry) (past : Past) → self.old.core.past ≡ e ∷ past →
+            self.old.core.forgotten ≤ length past →
             OnOk result (Appends (W.contents writer.old) (W.contents writer.new) (entry_text self.old.kinds.0 e)) }
-        ensures stopped { (e : Entry) (past : Past) → self.old.core.past ≡ e ∷ past → OnErr result
+        ensures stopped { (e : Entry) (past : Past) → self.old.core.past ≡ e ∷ past →
+            self.old.core.forgotten ≤ length past → OnErr result
             (AppendsFront (W.contents writer.old) (W.contents writer.new) (entry_text self.old.kinds.0 e)) }
     {
         self.text.clear();
@@ -118,9 +121,11 @@ impl Performer {
     ) -> Result<(), WriteFault>
         ensures same { (self.new.core ≡ self.old.core) × (self.new.kinds ≡ self.old.kinds) }
         ensures done { (before : ControllerState) (step : TheStep) → Serves before step answer self.old.core →
+            before.forgotten ≤ length before.past →
             OnOk result (SaysAll (step_says self.old.kinds.0 before.config before.past step) self.new.core.past
             (W.contents writer.old) (W.contents writer.new)) }
         ensures stopped { (before : ControllerState) (step : TheStep) → Serves before step answer self.old.core →
+            before.forgotten ≤ length before.past →
             OnErr result (AppendsFront (W.contents writer.old) (W.contents writer.new)
             (step_says self.old.kinds.0 before.config before.past step).1) }
     {
@@ -138,8 +143,12 @@ impl Performer {
         ensures stopped { OnErr result (AppendsFront (W.contents writer.old) (W.contents writer.new)
             (step_says self.old.kinds.0 self.old.core.config self.old.core.past step).1) }
     {
+        // A read tells the proof that no more were forgotten than there are.
+        let _ = self.core.history();
         let answer = self.core.step(step);
-        self.tell_answer(answer, writer)
+        let told = self.tell_answer(answer, writer);
+        self.core.forget(usize::MAX);
+        told
     }
 
     // Makes the step that is ready, until there is none.
@@ -151,10 +160,12 @@ impl Performer {
             (settle_says all_ready self.old.kinds.0 self.old.core.config self.old.core.past).1) }
     {
         for _turn in 0..u64::MAX {
+            let _ = self.core.history();
             let Some((_step, answer)) = self.core.step_ready() else {
                 return Ok(());
             };
             self.tell_answer(answer, writer)?;
+            self.core.forget(usize::MAX);
         }
         Ok(())
     }

@@ -81,16 +81,16 @@ module _ (words : List Text) (e : Error) (none : are_words_taken words ≡ true 
       gives words IsShowing e (kind_of e) refl (shown _ h) h
       (not_true (are_words_taken words) (kind_of e ≡ ErrorKind.OutOfMemory) none (shown _ h)) kinds
   by_showing (Asked.Run shown flush why file) h = absurd h
-  by_showing (Asked.Check follow area quiet why file) h = absurd h
-  by_showing (Asked.Explain follow area why file) h = absurd h
-  by_showing (Asked.Certify delayed why trace history) h = absurd h
-  by_showing (Asked.Refute why trace refutation) h = absurd h
-  by_showing (Asked.Observe witness refutation steps why trace) h = absurd h
-  by_showing (Asked.Tell color why file) h = absurd h
+  by_showing (Asked.Check follow area quiet json why file) h = absurd h
+  by_showing (Asked.Explain follow area json why file) h = absurd h
+  by_showing (Asked.Certify delayed json why trace history) h = absurd h
+  by_showing (Asked.Refute json why trace refutation) h = absurd h
+  by_showing (Asked.Observe witness refutation steps json why trace) h = absurd h
+  by_showing (Asked.Tell color json why file) h = absurd h
   by_showing (Asked.Draw from to blocks area trace why file) h = absurd h
   by_showing (Asked.Random seed lines config like) h = absurd h
   by_showing (Asked.Shrink why script) h = absurd h
-  by_showing (Asked.Race race crash seed seeds bias trace quiet why) h = absurd h
+  by_showing (Asked.Race race crash seed seeds bias trace quiet json why) h = absurd h
 
 -- nothing has no parts
 pub no_parts : {X : Type 0} (s : Option X) (g : X → Text) (h : X → List Row) → option_map g s ≡ None

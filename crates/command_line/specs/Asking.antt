@@ -19,7 +19,7 @@ use Rattle.command_line.specs.declared.request.UsageFault.{UsageFault}
 
 -- the numbers of a race that is asked for are in their ranges
 abbrev pub IsRaceInRange : Asked → Type 0
-IsRaceInRange (Asked.Race r crash seed seeds bias trace quiet why) =
+IsRaceInRange (Asked.Race r crash seed seeds bias trace quiet json why) =
     usage_of r.hosts r.workers r.slots r.rounds r.queues ≡ None
 IsRaceInRange _ = Unit {0}
 
@@ -91,21 +91,23 @@ pub record SaysRun (rows : List Row) (shown : Shown) (flush why : Bool) (file : 
   pub reads : SaysText (codes "FILE") rows file
 
 -- what the options of `check` say; it doesn't follow where there is an area
-pub record SaysCheck (rows : List Row) (follow : Bool) (area : Option SlotArea) (quiet why : Bool) (file : Text)
+pub record SaysCheck (rows : List Row) (follow : Bool) (area : Option SlotArea) (quiet json why : Bool) (file : Text)
     : Type 0 where
   pub follows : SaysFlag (codes "follow") rows follow
   pub slots : SaysArea rows area
   pub one_of_both : (follow && is_some area) ≡ false
   pub hushed : SaysFlag (codes "quiet") rows quiet
+  pub object : SaysFlag (codes "json") rows json
   pub reason : SaysFlag (codes "why") rows why
   pub reads : SaysText (codes "FILE") rows file
 
 -- what the options of `explain` say; it doesn't follow where there is an area
-pub record SaysExplain (rows : List Row) (follow : Bool) (area : Option SlotArea) (why : Bool) (file : Text)
+pub record SaysExplain (rows : List Row) (follow : Bool) (area : Option SlotArea) (json why : Bool) (file : Text)
     : Type 0 where
   pub follows : SaysFlag (codes "follow") rows follow
   pub slots : SaysArea rows area
   pub one_of_both : (follow && is_some area) ≡ false
+  pub object : SaysFlag (codes "json") rows json
   pub reason : SaysFlag (codes "why") rows why
   pub reads : SaysText (codes "FILE") rows file
 
@@ -117,11 +119,12 @@ pub record SaysBeside (name : Text) (rows : List Row) (why : Bool) (trace file :
   pub two : AreTwoInputs trace file
 
 -- what the options of `observe` say
-pub record SaysObserve (rows : List Row) (witness refutation : Option (Bor Text)) (steps : ℕ) (why : Bool)
+pub record SaysObserve (rows : List Row) (witness refutation : Option (Bor Text)) (steps : ℕ) (json why : Bool)
     (trace : Text) : Type 0 where
   pub writes : MaySayText (codes "witness") rows witness
   pub refutes : MaySayText (codes "refutation") rows refutation
   pub limit : SaysNumber (codes "steps") rows steps
+  pub object : SaysFlag (codes "json") rows json
   pub reason : SaysFlag (codes "why") rows why
   pub saw : SaysText (codes "TRACE") rows trace
 
@@ -139,8 +142,9 @@ color_asked None = Some Auto
 color_asked (Some word) = color_in word
 
 -- what the options of `tell` say
-pub record SaysTell (rows : List Row) (color : ColorChoice) (why : Bool) (file : Text) : Type 0 where
+pub record SaysTell (rows : List Row) (color : ColorChoice) (json why : Bool) (file : Text) : Type 0 where
   pub colors : color_asked (first_of (codes "color") rows) ≡ Some color
+  pub object : SaysFlag (codes "json") rows json
   pub reason : SaysFlag (codes "why") rows why
   pub reads : SaysText (codes "FILE") rows file
 
@@ -186,7 +190,7 @@ pub record SaysShrink (rows : List Row) (why : Bool) (script : Text) : Type 0 wh
 
 -- what the options of `race` say
 pub record SaysRace (rows : List Row) (r : Race) (crash seed : Option ℕ) (seeds bias : Option (Bor Text))
-    (trace quiet why : Bool) : Type 0 where
+    (trace quiet json why : Bool) : Type 0 where
   pub numbers : SaysNumbers rows r.hosts r.workers r.slots r.rounds r.queues
   pub dying : MaySayNumber (codes "crash") rows crash
   pub begins : MaySayNumber (codes "seed") rows seed
@@ -194,6 +198,7 @@ pub record SaysRace (rows : List Row) (r : Race) (crash seed : Option ℕ) (seed
   pub weights : MaySayText (codes "bias") rows bias
   pub traces : SaysFlag (codes "trace") rows trace
   pub hushed : SaysFlag (codes "quiet") rows quiet
+  pub objects : SaysFlag (codes "json") rows json
   pub reason : SaysFlag (codes "why") rows why
 
 -- a number of a race is missing, or one is out of its range
@@ -204,25 +209,26 @@ IsNoRace rows = (hosts workers slots rounds queues : ℕ) → SaysNumbers rows h
 -- what the options of a command of this name ask for
 abbrev pub AsksBy : Text → List Row → Asked → Type 0
 AsksBy name rows (Asked.Run shown flush why file) = (name ≡ codes "run") × SaysRun rows shown flush why file.now
-AsksBy name rows (Asked.Check follow area quiet why file) =
-    (name ≡ codes "check") × SaysCheck rows follow area quiet why file.now
-AsksBy name rows (Asked.Explain follow area why file) =
-    (name ≡ codes "explain") × SaysExplain rows follow area why file.now
-AsksBy name rows (Asked.Certify delayed why trace history) =
-    (name ≡ codes "certify") × SaysFlag (codes "delayed") rows delayed
+AsksBy name rows (Asked.Check follow area quiet json why file) =
+    (name ≡ codes "check") × SaysCheck rows follow area quiet json why file.now
+AsksBy name rows (Asked.Explain follow area json why file) =
+    (name ≡ codes "explain") × SaysExplain rows follow area json why file.now
+AsksBy name rows (Asked.Certify delayed json why trace history) =
+    (name ≡ codes "certify") × SaysFlag (codes "delayed") rows delayed × SaysFlag (codes "json") rows json
     × SaysBeside (codes "HISTORY") rows why trace.now history.now
-AsksBy name rows (Asked.Refute why trace refutation) =
-    (name ≡ codes "refute") × SaysBeside (codes "REFUTATION") rows why trace.now refutation.now
-AsksBy name rows (Asked.Observe witness refutation steps why trace) =
-    (name ≡ codes "observe") × SaysObserve rows witness refutation steps why trace.now
-AsksBy name rows (Asked.Tell color why file) = (name ≡ codes "tell") × SaysTell rows color why file.now
+AsksBy name rows (Asked.Refute json why trace refutation) =
+    (name ≡ codes "refute") × SaysFlag (codes "json") rows json
+    × SaysBeside (codes "REFUTATION") rows why trace.now refutation.now
+AsksBy name rows (Asked.Observe witness refutation steps json why trace) =
+    (name ≡ codes "observe") × SaysObserve rows witness refutation steps json why trace.now
+AsksBy name rows (Asked.Tell color json why file) = (name ≡ codes "tell") × SaysTell rows color json why file.now
 AsksBy name rows (Asked.Draw from to blocks area trace why file) =
     (name ≡ codes "draw") × SaysDraw rows from to blocks area trace why file.now
 AsksBy name rows (Asked.Random seed lines config like) =
     (name ≡ codes "random") × SaysRandom rows seed lines config like
 AsksBy name rows (Asked.Shrink why script) = (name ≡ codes "shrink") × SaysShrink rows why script.now
-AsksBy name rows (Asked.Race r crash seed seeds bias trace quiet why) =
-    (name ≡ codes "race") × SaysRace rows r crash seed seeds bias trace quiet why
+AsksBy name rows (Asked.Race r crash seed seeds bias trace quiet json why) =
+    (name ≡ codes "race") × SaysRace rows r crash seed seeds bias trace quiet json why
 AsksBy name rows (Asked.Show text) = ⊥
 
 -- the words name a command, whose options ask for it

@@ -59,14 +59,15 @@ run_app =
 -- the command `check` with its options
 abbrev pub check_app : App
 check_app =
-    with_rule (with_rule (with_rule (with_rule (with_rule (new_app (codes "check")) (flag_rule (codes "follow")))
-    area_rule) (flag_rule (codes "quiet"))) (flag_rule (codes "why"))) (input_rule (codes "FILE"))
+    with_rule (with_rule (with_rule (with_rule (with_rule (with_rule (new_app (codes "check"))
+    (flag_rule (codes "follow"))) area_rule) (flag_rule (codes "quiet"))) (flag_rule (codes "json")))
+    (flag_rule (codes "why"))) (input_rule (codes "FILE"))
 
 -- the command `explain` with its options
 abbrev pub explain_app : App
 explain_app =
-    with_rule (with_rule (with_rule (with_rule (new_app (codes "explain")) (flag_rule (codes "follow"))) area_rule)
-    (flag_rule (codes "why"))) (input_rule (codes "FILE"))
+    with_rule (with_rule (with_rule (with_rule (with_rule (new_app (codes "explain")) (flag_rule (codes "follow")))
+    area_rule) (flag_rule (codes "json"))) (flag_rule (codes "why"))) (input_rule (codes "FILE"))
 
 -- a command with the numbers of a race
 abbrev pub with_race_rules : App → App
@@ -84,8 +85,8 @@ with_turn_rules a =
 -- the command `race` with its options
 abbrev pub race_app : App
 race_app =
-    with_rule (with_rule (with_rule (with_turn_rules (with_race_rules (new_app (codes "race"))))
-    (flag_rule (codes "trace"))) (flag_rule (codes "quiet"))) (flag_rule (codes "why"))
+    with_rule (with_rule (with_rule (with_rule (with_turn_rules (with_race_rules (new_app (codes "race"))))
+    (flag_rule (codes "trace"))) (flag_rule (codes "quiet"))) (flag_rule (codes "json"))) (flag_rule (codes "why"))
 
 -- a command with a trace and with the file of this name beside it
 abbrev pub beside_app : App → Text → App
@@ -94,24 +95,26 @@ beside_app a name =
 
 -- the command `certify` with its files
 abbrev pub certify_app : App
-certify_app = beside_app (with_rule (new_app (codes "certify")) (flag_rule (codes "delayed"))) (codes "HISTORY")
+certify_app =
+    beside_app (with_rule (with_rule (new_app (codes "certify")) (flag_rule (codes "delayed")))
+    (flag_rule (codes "json"))) (codes "HISTORY")
 
 -- the command `refute` with its files
 abbrev pub refute_app : App
-refute_app = beside_app (new_app (codes "refute")) (codes "REFUTATION")
+refute_app = beside_app (with_rule (new_app (codes "refute")) (flag_rule (codes "json"))) (codes "REFUTATION")
 
 -- the command `observe` with its options
 abbrev pub observe_app : App
 observe_app =
-    with_rule (with_rule (with_rule (with_rule (with_rule (new_app (codes "observe")) (text_rule (codes "witness")))
-    (text_rule (codes "refutation"))) (default_rule (codes "steps") (codes "10000000"))) (flag_rule (codes "why")))
-    (input_rule (codes "TRACE"))
+    with_rule (with_rule (with_rule (with_rule (with_rule (with_rule (new_app (codes "observe"))
+    (text_rule (codes "witness"))) (text_rule (codes "refutation"))) (default_rule (codes "steps") (codes "10000000")))
+    (flag_rule (codes "json"))) (flag_rule (codes "why"))) (input_rule (codes "TRACE"))
 
 -- the command `tell` with its options
 abbrev pub tell_app : App
 tell_app =
-    with_rule (with_rule (with_rule (new_app (codes "tell")) (text_rule (codes "color"))) (flag_rule (codes "why")))
-    (input_rule (codes "FILE"))
+    with_rule (with_rule (with_rule (with_rule (new_app (codes "tell")) (text_rule (codes "color")))
+    (flag_rule (codes "json"))) (flag_rule (codes "why"))) (input_rule (codes "FILE"))
 
 -- a command with the range of what is drawn
 abbrev pub with_range_rules : App → App

@@ -6,7 +6,9 @@ ghost use Rattle.command_line.specs.Asking.{AreTwoInputs, AsksBy, IsRaceInRange,
 ghost use Rattle.command_line.specs.CommandLine.{beside_app, certify_app, refute_app};
 
 use crate::options::Argument::{Flag, Input};
-use crate::options::{HISTORY, REFUTATION, SEEN, WHY, flag_asked, text_needed, text_of, with};
+use crate::options::{
+    HISTORY, JSON, REFUTATION, SEEN, WHY, flag_asked, text_needed, text_of, with,
+};
 use crate::request::{Asked, UsageFault};
 use clap::{ArgMatches, Command};
 use std::alloc::{AllocError, Global};
@@ -60,6 +62,7 @@ pub(crate) fn certify_command<'a>(alloc: Global) -> Result<Command<'a>, AllocErr
         .about(ABOUT)
         .after_help(ABOUT_TRACES);
     let command = with(alloc, command, "delayed", Flag, DELAYED)?;
+    let command = with(alloc, command, "json", Flag, JSON)?;
     with_files(alloc, command, "HISTORY", HISTORY)
 }
 
@@ -69,6 +72,7 @@ pub(crate) fn refute_command<'a>(alloc: Global) -> Result<Command<'a>, AllocErro
     let command = Command::new(alloc, "refute")
         .about(ABOUT_REFUTE)
         .after_help(ABOUT_REFUTATIONS);
+    let command = with(alloc, command, "json", Flag, JSON)?;
     with_files(alloc, command, "REFUTATION", REFUTATION)
 }
 
@@ -95,6 +99,7 @@ pub(crate) fn certify_asked<'a>(
     }
     Ok(Asked::Certify {
         delayed: flag_asked(matches, "delayed"),
+        json: flag_asked(matches, "json"),
         why: flag_asked(matches, "why"),
         trace,
         history,
@@ -114,7 +119,9 @@ pub(crate) fn refute_asked<'a>(
     if are_one_input(trace, refutation) {
         return Err(text_of(alloc, "error: TRACE and REFUTATION are both standard input"));
     }
+    let json = flag_asked(matches, "json");
     Ok(Asked::Refute {
+        json,
         why: flag_asked(matches, "why"),
         trace,
         refutation,

@@ -7,7 +7,7 @@ ghost use Rattle.command_line.specs.CommandLine.{check_app, explain_app};
 
 use crate::area::area_asked;
 use crate::options::Argument::{Area, Flag, Input};
-use crate::options::{HISTORY, NO_FILE, QUIET, WHY, flag_asked, text_needed, text_of, with};
+use crate::options::{HISTORY, JSON, NO_FILE, QUIET, WHY, flag_asked, text_needed, text_of, with};
 use crate::request::{Asked, UsageFault};
 use clap::{ArgMatches, Command};
 use std::alloc::{AllocError, Global};
@@ -41,6 +41,7 @@ pub(crate) fn check_command<'a>(alloc: Global) -> Result<Command<'a>, AllocError
     let command = with(alloc, command, "follow", Flag, FOLLOW)?;
     let command = with(alloc, command, "slots", Area, SLOTS)?;
     let command = with(alloc, command, "quiet", Flag, QUIET)?;
+    let command = with(alloc, command, "json", Flag, JSON)?;
     let command = with(alloc, command, "why", Flag, WHY)?;
     with(alloc, command, "FILE", Input, HISTORY)
 }
@@ -53,6 +54,7 @@ pub(crate) fn explain_command<'a>(alloc: Global) -> Result<Command<'a>, AllocErr
         .after_help(ABOUT_HISTORIES);
     let command = with(alloc, command, "follow", Flag, FOLLOW)?;
     let command = with(alloc, command, "slots", Area, SLOTS)?;
+    let command = with(alloc, command, "json", Flag, JSON)?;
     let command = with(alloc, command, "why", Flag, WHY)?;
     with(alloc, command, "FILE", Input, HISTORY)
 }
@@ -75,6 +77,7 @@ pub(crate) fn check_asked<'a>(
         follow,
         area,
         quiet: flag_asked(matches, "quiet"),
+        json: flag_asked(matches, "json"),
         why: flag_asked(matches, "why"),
         file,
     })
@@ -97,6 +100,7 @@ pub(crate) fn explain_asked<'a>(
     Ok(Asked::Explain {
         follow,
         area,
+        json: flag_asked(matches, "json"),
         why: flag_asked(matches, "why"),
         file,
     })

@@ -6,7 +6,9 @@ ghost use Rattle.command_line.specs.Asking.{AsksBy, IsRaceInRange, IsRefusedBy};
 ghost use Rattle.command_line.specs.CommandLine.{observe_app};
 
 use crate::options::Argument::{Flag, Input, NumberOr, Text};
-use crate::options::{SEEN, WHY, flag_asked, number_asked, text_asked, text_needed, text_of, with};
+use crate::options::{
+    JSON, SEEN, WHY, flag_asked, number_asked, text_asked, text_needed, text_of, with,
+};
 use crate::request::{Asked, UsageFault};
 use clap::{ArgMatches, Command};
 use std::alloc::{AllocError, Global};
@@ -37,6 +39,7 @@ pub(crate) fn observe_command<'a>(alloc: Global) -> Result<Command<'a>, AllocErr
     let command = with(alloc, command, "witness", Text("FILE"), WITNESS)?;
     let command = with(alloc, command, "refutation", Text("FILE"), REFUTATION)?;
     let command = with(alloc, command, "steps", NumberOr("N", "10000000"), STEPS)?;
+    let command = with(alloc, command, "json", Flag, JSON)?;
     let command = with(alloc, command, "why", Flag, WHY)?;
     with(alloc, command, "TRACE", Input, SEEN)
 }
@@ -57,6 +60,7 @@ pub(crate) fn observe_asked<'a>(
         witness: text_asked(matches, "witness"),
         refutation: text_asked(matches, "refutation"),
         steps,
+        json: flag_asked(matches, "json"),
         why: flag_asked(matches, "why"),
         trace,
     })

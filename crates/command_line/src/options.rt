@@ -18,6 +18,8 @@ pub(crate) const SEEN: &str = "What hosts saw; - is standard input";
 
 pub(crate) const WHY: &str = "Say why it failed, in a second line on standard error";
 
+pub(crate) const JSON: &str = "Print the answer as a JSON object";
+
 pub(crate) const QUIET: &str = "Don't say how far it is";
 
 pub(crate) const NO_FILE: &str = "error: no file";

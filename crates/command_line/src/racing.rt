@@ -7,7 +7,7 @@ ghost use Rattle.command_line.specs.CommandLine.{race_app, with_race_rules, with
 
 use crate::options::Argument::{Flag, Needed, Number, NumberOr, Text};
 use crate::options::{
-    QUIET, WHY, flag_asked, number_asked, number_may_be, text_asked, text_of, with,
+    JSON, QUIET, WHY, flag_asked, number_asked, number_may_be, text_asked, text_of, with,
 };
 use crate::request::{Asked, UsageFault};
 use clap::{ArgMatches, Command};
@@ -78,6 +78,7 @@ pub(crate) fn race_command<'a>(alloc: Global) -> Result<Command<'a>, AllocError>
     let command = with_turns(alloc, command)?;
     let command = with(alloc, command, "trace", Flag, TRACE)?;
     let command = with(alloc, command, "quiet", Flag, QUIET)?;
+    let command = with(alloc, command, "json", Flag, JSON)?;
     with(alloc, command, "why", Flag, WHY)
 }
 
@@ -130,6 +131,7 @@ pub(crate) fn race_asked<'a>(
             bias: text_asked(matches, "bias"),
             trace: flag_asked(matches, "trace"),
             quiet: flag_asked(matches, "quiet"),
+            json: flag_asked(matches, "json"),
             why: flag_asked(matches, "why"),
         }),
         Err(usage) => Err(no_race(alloc, usage, hosts, queues)),

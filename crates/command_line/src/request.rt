@@ -34,7 +34,7 @@ pub enum Shown {
 }
 
 /// What the words of the command line ask for. Where `why` is true, a second line on standard error says why a command
-/// failed; where `quiet` is true, nothing says how far it is.
+/// failed; where `quiet` is true, nothing says how far it is; where `json` is true, an answer is a JSON object.
 #[derive(Drop)]
 pub enum Asked<'a> {
     /// To run the script in this file; where it flushes, each line is sent as soon as it is made.
@@ -50,6 +50,7 @@ pub enum Asked<'a> {
         follow: bool,
         area: Option<SlotArea>,
         quiet: bool,
+        json: bool,
         why: bool,
         file: &'a str,
     },
@@ -58,18 +59,21 @@ pub enum Asked<'a> {
     Explain {
         follow: bool,
         area: Option<SlotArea>,
+        json: bool,
         why: bool,
         file: &'a str,
     },
     /// To compare the history in one file with what hosts saw, in another, which may have been logged with delays.
     Certify {
         delayed: bool,
+        json: bool,
         why: bool,
         trace: &'a str,
         history: &'a str,
     },
     /// To compare what is said to refute a trace, in one file, with what hosts saw, in another.
     Refute {
+        json: bool,
         why: bool,
         trace: &'a str,
         refutation: &'a str,
@@ -80,12 +84,14 @@ pub enum Asked<'a> {
         witness: Option<&'a str>,
         refutation: Option<&'a str>,
         steps: u64,
+        json: bool,
         why: bool,
         trace: &'a str,
     },
     /// To tell the history in this file in words; where it colours, each line in the colour of its kind.
     Tell {
         color: ColorChoice,
+        json: bool,
         why: bool,
         file: &'a str,
     },
@@ -124,6 +130,7 @@ pub enum Asked<'a> {
         bias: Option<&'a str>,
         trace: bool,
         quiet: bool,
+        json: bool,
         why: bool,
     },
     /// To print this text, of `--help` or `--version`.

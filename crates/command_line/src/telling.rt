@@ -7,7 +7,7 @@ ghost use Rattle.command_line.specs.Asking.{color_in};
 ghost use Rattle.command_line.specs.CommandLine.{tell_app};
 
 use crate::options::Argument::{Flag, Input, Text};
-use crate::options::{NO_FILE, WHY, flag_asked, text_asked, text_needed, text_of, with};
+use crate::options::{JSON, NO_FILE, WHY, flag_asked, text_asked, text_needed, text_of, with};
 use crate::request::{Asked, ColorChoice, UsageFault};
 use clap::{ArgMatches, Command};
 use std::alloc::{AllocError, Global};
@@ -33,6 +33,7 @@ pub(crate) fn tell_command<'a>(alloc: Global) -> Result<Command<'a>, AllocError>
         .about("Tells a history or a trace in words, a line for a line")
         .after_help(ABOUT_WORDS);
     let command = with(alloc, command, "color", Text("WHEN"), COLOR)?;
+    let command = with(alloc, command, "json", Flag, JSON)?;
     let command = with(alloc, command, "why", Flag, WHY)?;
     with(alloc, command, "FILE", Input, LINES)
 }
@@ -79,6 +80,7 @@ pub(crate) fn tell_asked<'a>(
     let file = text_needed(alloc, matches, "FILE", NO_FILE)?;
     Ok(Asked::Tell {
         color,
+        json: flag_asked(matches, "json"),
         why: flag_asked(matches, "why"),
         file,
     })

@@ -2,7 +2,7 @@
 use Rattle.std.specs.Result.{result_map_both}
 use Rattle.std.specs.Prelude.{Bool, Err, List, None, Ok, Option, Result, Some, false, slice_get, true, unwrap_or}
 use Rattle.std.specs.Prelude.{ℕ, [], ◌+◌, ◌++◌, ◌-◌, ◌^◌, ◌<◌, ◌≤◌, ◌∷◌, ◌≡◌, ◌⊎◌}
-use Rattle.nvme_model.specs.Completions.{posted_completions, reaped_count}
+use Rattle.nvme_model.specs.Completions.{posted_completions, reaped_count, reaped_payload}
 use Rattle.nvme_model.specs.EntryBytes.{block_count, slba}
 use Rattle.nvme_model.specs.History.{Past}
 use Rattle.nvme_model.specs.Open.{has_ended, unit_range}
@@ -14,7 +14,6 @@ use Rattle.nvme_model.specs.declared.array.Range.{Range}
 use Rattle.nvme_model.specs.declared.config.ConfigNumbers.{ConfigNumbers}
 use Rattle.nvme_model.specs.declared.entry.BlockLine.{BlockLine}
 use Rattle.nvme_model.specs.declared.entry.Entry.{Entry}
-use Rattle.nvme_model.specs.declared.entry.PostLine.{PostLine}
 use Rattle.nvme_model.specs.declared.operation.Op.{Op}
 use Rattle.nvme_model.specs.declared.refusal.Why.{Why}
 use Rattle.nvme_model.specs.declared.status.Verdict.{Verdict}
@@ -31,11 +30,12 @@ pub record Room : Type 0 where
   pub entries : ℕ
   pub ranges : ℕ
 
--- a controller: its configuration, its history, how many of the next Grants, Blocks and Reaps have their memory, and
--- the room that is there
+-- a controller: its configuration; its history, and how many of the oldest entries it has forgotten; how many of the
+-- next Grants, Blocks and Reaps have their memory; and the room that is there
 pub record ControllerState : Type 0 where
   pub config : ConfigNumbers
   pub past : Past
+  pub forgotten : ℕ
   pub promised : ℕ
   pub room : Room
 
@@ -71,11 +71,6 @@ done_of past b =
       ended = has_ended (Entry.Block b ∷ past) b.ticket b.unit (unit_range past b.ticket b.unit).blocks;
     }
 
--- the data of the completion that is reaped
-abbrev pub reaped_payload : Option PostLine → List ℕ
-reaped_payload None = []
-reaped_payload (Some p) = p.payload
-
 -- what is answered for an entry behind this history
 abbrev pub answer_of : ConfigNumbers → Past → Entry → Answer
 answer_of c past (Entry.Publish p) = Answer.Published
@@ -98,12 +93,7 @@ promised_after _ n = n
 -- after an accepted step, with this room
 abbrev pub state_after : ControllerState → Step → Room → ControllerState
 state_after x step room =
-    record {
-      config = x.config;
-      past = next_entry x.config x.past step ∷ x.past;
-      promised = promised_after step x.promised;
-      room = room;
-    }
+    record x { past = next_entry x.config x.past step ∷ x.past; promised = promised_after step x.promised; room = room }
 
 -- how many ranges a step takes the room of
 abbrev pub ranges_taken : Step → ℕ

@@ -42,6 +42,12 @@ pub trait Machine: Drop {
         ensures refused { IfErr result (λ r. (history self.new ≡ history self.old)
             × refuses (config self.old) (history self.old) step r) };
 
+    /// Forgets the oldest entries of its history, as far as this place, from 0: they leave memory, and the history is
+    /// the same.
+    fn forget(&mut self, place: usize)
+        ensures config { config self.new ≡ config self.old }
+        ensures history { history self.new ≡ history self.old };
+
     /// What the machine keeps of its history gives that this is legal.
     ghost is_legal: { (c : ConfigNumbers) (past : Past) → legal c past → IsLegal c past };
 

@@ -1,7 +1,8 @@
 //! Entries by the layout of the standards.
 
 ghost use Rattle.std.specs.Prelude.{IfOk, length, ◌≡◌, ◌≤◌};
-ghost use Rattle.driver_calls.specs.Entries.{entry_count, payloads_of};
+ghost use Rattle.driver_calls.specs.Entries.{payloads_of};
+ghost use Rattle.nvme_model.specs.Operations.{command_count};
 
 use driver_calls::{CallData, Request, batch_of, room_for, taken_back};
 use nvme_model::operation::Op;
@@ -35,8 +36,8 @@ const SECOND: [u8; 64] = [
 fn made(alloc: Global, request: Request, contents: CallData) -> Result<Submissions, NoMemory>
     requires some { 1 ≤ request.blocks }
     requires most { request.blocks ≤ 65536 }
-    requires contents { length (payloads_of contents) ≡ entry_count request.op }
-    ensures count { IfOk result (λ batch. length batch ≡ entry_count request.op) }
+    requires contents { length (payloads_of contents) ≡ command_count request.op }
+    ensures count { IfOk result (λ batch. length batch ≡ command_count request.op) }
 {
     let room = room_for(alloc, request.op)?;
     Ok(batch_of(request, 0x1234, 0x5678, contents, room))

@@ -1,5 +1,5 @@
-//! A controller by calls: promised steps, and many in one call. What each step does is told by contracts, and shown by
-//! scripts.
+//! A controller by calls: promised steps, many in one call, and steps behind some that it forgot. What each step does
+//! is told by contracts, and shown by scripts.
 
 use history::{Config, write_line};
 use nvme_model::submission::{Payload, Submission};
@@ -105,4 +105,56 @@ fn makes_history(rt: &impl Abort, alloc: Global, core: &mut Core) -> Result<(), 
 fn promised_steps_in_one_call(rt: HostRuntime) -> Result<(), Fail> {
     let mut core = small(rt.alloc())?;
     makes_history(&rt, rt.alloc(), &mut core)
+}
+
+// Makes half of the steps, forgets what stands before these places, one after the other, and makes the rest.
+fn forgets_between(
+    rt: &impl Abort,
+    alloc: Global,
+    core: &mut Core,
+    places: &[usize],
+) -> Result<(), Fail> {
+    let mut steps = fourteen_steps(alloc)?;
+    let mut rest = Vec::new(alloc);
+    for _place in 7..LINES.len() {
+        rest.push(steps.pop().ok_or("a step")?)?;
+    }
+    rest.reverse();
+    run(rt, alloc, core, steps)?;
+    for place in places {
+        core.forget(*place);
+    }
+    run(rt, alloc, core, rest)?;
+    Ok(())
+}
+
+// That so many lines are then forgotten, and the others are as without it, each at its place.
+fn keeps_from(
+    rt: &impl Abort,
+    alloc: Global,
+    places: &[usize],
+    forgotten: usize,
+) -> Result<(), Fail> {
+    let mut core = small(alloc)?;
+    forgets_between(rt, alloc, &mut core, places)?;
+    let history = core.history();
+    assert_eq!(rt;
+        (history.len(), history.forgotten()),
+        (LINES.len(), forgotten)
+    );
+    assert!(rt; history.get(forgotten).is_some() && history.last().is_some());
+    assert!(rt; forgotten == 0 || history.get(forgotten.saturating_sub(1)).is_none());
+    assert!(rt; history.whole().is_some() == (forgotten == 0));
+    has_lines(rt, alloc, &core, &LINES[forgotten.min(LINES.len())..])
+}
+
+#[test]
+fn what_stands_before_a_place_is_forgotten(rt: HostRuntime) -> Result<(), Fail> {
+    let alloc = rt.alloc();
+    keeps_from(&rt, alloc, &[0], 0)?;
+    keeps_from(&rt, alloc, &[3], 3)?;
+    keeps_from(&rt, alloc, &[7], 7)?;
+    keeps_from(&rt, alloc, &[usize::MAX], 7)?;
+    keeps_from(&rt, alloc, &[5, 2], 5)?;
+    keeps_from(&rt, alloc, &[2, 5], 5)
 }

@@ -5,7 +5,7 @@ use Rattle.std.specs.List.{list_all, list_any}
 use Rattle.nvme_model.specs.Array.{overlap}
 use Rattle.nvme_model.specs.Commands.{is_compare, is_write}
 use Rattle.nvme_model.specs.EntryBytes.{Sqe, block_count, slba}
-use Rattle.nvme_model.specs.Operations.{has_write, op_of_fields}
+use Rattle.nvme_model.specs.Operations.{command_count, has_write, op_of_fields}
 use Rattle.nvme_model.specs.Slots.{is_pair_on_one, touches}
 use Rattle.nvme_model.specs.declared.array.Range.{Range}
 use Rattle.nvme_model.specs.declared.operation.Op.{Op}
@@ -15,13 +15,13 @@ use Rattle.host_laws.specs.Book.{cid_of}
 use Rattle.host_laws.specs.Calls.{is_proper}
 use Rattle.entry_codec.specs.Sqe.{command_fields}
 use Rattle.driver_calls.specs.Says.{IsFusedIn, IsSingleIn}
-use Rattle.driver_calls.specs.Entries.{IsBatch, IsCommand, entry_count, first_opcode, payloads_of}
+use Rattle.driver_calls.specs.Entries.{IsBatch, IsCommand, first_opcode, payloads_of}
 use Rattle.driver_calls.specs.declared.request.CallData.{CallData}
 use Rattle.driver_calls.proofs.Commands.{command_cid, command_proper, command_touches}
 use Rattle.nvme_model.proofs.Bools.{or_false}
 
 -- one entry with the opcode of an operation that has one is a call of it
-pub one_made : (o : Op) (l n first second : ℕ) (payload : List ℕ) (s : Submission) → entry_count o ≡ 1
+pub one_made : (o : Op) (l n first second : ℕ) (payload : List ℕ) (s : Submission) → command_count o ≡ 1
     → IsCommand s (first_opcode o) 0 first l n payload
     → IsBatch o l n first second (CallData.One payload) (s ∷ [])
 one_made Op.Read l n first second payload s h c = c
@@ -31,7 +31,7 @@ one_made Op.WriteZeroes l n first second payload s h c = c
 one_made Op.Pair l n first second payload s h c = absurd (omega (arith, h))
 
 -- a Compare and a Write, fused, are a call of an operation that has two
-pub two_made : (o : Op) (l n first second : ℕ) (expected desired : List ℕ) (s t : Submission) → entry_count o ≡ 2
+pub two_made : (o : Op) (l n first second : ℕ) (expected desired : List ℕ) (s t : Submission) → command_count o ≡ 2
     → IsCommand s 5 1 first l n expected → IsCommand t 1 2 second l n desired
     → IsBatch o l n first second (CallData.Two expected desired) (s ∷ t ∷ [])
 two_made Op.Read l n first second expected desired s t h c d = absurd (omega (arith, h))
@@ -42,7 +42,7 @@ two_made Op.Pair l n first second expected desired s t h c d = (c, d)
 
 -- what holds of one command's entry, and of a fused pair's, holds of the entries of each call
 pub by_call : (P : Op → CallData → List Submission → Type 0) (l n first second : ℕ)
-    → ((o : Op) (payload : List ℕ) (s : Submission) → entry_count o ≡ 1
+    → ((o : Op) (payload : List ℕ) (s : Submission) → command_count o ≡ 1
     → IsCommand s (first_opcode o) 0 first l n payload → P o (CallData.One payload) (s ∷ []))
     → ((expected desired : List ℕ) (s t : Submission) → IsCommand s 5 1 first l n expected
     → IsCommand t 1 2 second l n desired → P Op.Pair (CallData.Two expected desired) (s ∷ t ∷ []))
@@ -73,9 +73,9 @@ by_call P l n first second one two Op.Pair (CallData.Two expected desired) (s �
 by_call P l n first second one two Op.Pair (CallData.Two expected desired) (s ∷ t ∷ u ∷ batch) c = absurd c
 
 pub call_count : (o : Op) (l n first second : ℕ) (contents : CallData) (batch : List Submission)
-    → IsBatch o l n first second contents batch → length batch ≡ entry_count o
+    → IsBatch o l n first second contents batch → length batch ≡ command_count o
 call_count o l n first second contents batch =
-    by_call (λ o contents batch. length batch ≡ entry_count o) l n first second (λ o payload s h c. sym h)
+    by_call (λ o contents batch. length batch ≡ command_count o) l n first second (λ o payload s h c. sym h)
     (λ expected desired s t c d. refl) o contents batch
 
 pub call_payloads : (o : Op) (l n first second : ℕ) (contents : CallData) (batch : List Submission)
@@ -88,9 +88,9 @@ call_payloads o l n first second contents batch =
 
 pub call_cids : (o : Op) (l n first second : ℕ) (contents : CallData) (batch : List Submission)
     → IsBatch o l n first second contents batch
-    → map cid_of batch ≡ take (entry_count o) (first ∷ second ∷ [])
+    → map cid_of batch ≡ take (command_count o) (first ∷ second ∷ [])
 call_cids o l n first second contents batch =
-    by_call (λ o contents batch. map cid_of batch ≡ take (entry_count o) (first ∷ second ∷ [])) l n first second
+    by_call (λ o contents batch. map cid_of batch ≡ take (command_count o) (first ∷ second ∷ [])) l n first second
     (λ o payload s h c. ap (λ (i : ℕ). i ∷ []) (command_cid s (first_opcode o) 0 first l n payload c)
     ∙ ap (λ (k : ℕ). take k (first ∷ second ∷ [])) (sym h))
     (λ expected desired s t c d.
@@ -98,7 +98,7 @@ call_cids o l n first second contents batch =
     o contents batch
 
 -- the opcode of a command by itself is that of its operation
-does : (o : Op) (cid l k : ℕ) → entry_count o ≡ 1 → op_of_fields (command_fields (first_opcode o) 0 cid l k) ≡ Some o
+does : (o : Op) (cid l k : ℕ) → command_count o ≡ 1 → op_of_fields (command_fields (first_opcode o) 0 cid l k) ≡ Some o
 does Op.Read cid l k h = refl
 does Op.Compare cid l k h = refl
 does Op.Write cid l k h = refl
@@ -106,10 +106,10 @@ does Op.WriteZeroes cid l k h = refl
 does Op.Pair cid l k h = absurd (omega (arith, h))
 
 pub call_single : (o : Op) (l n first second : ℕ) (contents : CallData) (before batch : List Submission)
-    → IsBatch o l n first second contents batch → entry_count o ≡ 1
+    → IsBatch o l n first second contents batch → command_count o ≡ 1
     → IsSingleIn (before ++ batch) (length before) o
 call_single o l n first second contents before batch =
-    by_call (λ o contents batch. entry_count o ≡ 1 → IsSingleIn (before ++ batch) (length before) o) l n first second
+    by_call (λ o contents batch. command_count o ≡ 1 → IsSingleIn (before ++ batch) (length before) o) l n first second
     (λ o payload s h c _. record {
       entry = s;
       there = get_after before (s ∷ []) 0 (length before) s (omega arith) refl;
@@ -123,7 +123,7 @@ pub call_fused : (l n first second : ℕ) (contents : CallData) (before batch : 
     → IsBatch Op.Pair l n first second contents batch
     → IsFusedIn (before ++ batch) (length before)
 call_fused l n first second contents before batch h =
-    by_call (λ o contents batch. entry_count o ≡ 2 → IsFusedIn (before ++ batch) (length before)) l n first second
+    by_call (λ o contents batch. command_count o ≡ 2 → IsFusedIn (before ++ batch) (length before)) l n first second
     (λ o payload s h c k. absurd (omega (arith, h, k)))
     (λ expected desired s t c d _. record {
       first = s;
@@ -153,7 +153,7 @@ call_proper o l n first second contents batch most =
     (command_proper t 1 2 second l n desired (omega arith) (omega arith) most d)) o contents batch
 
 -- which operations write, by their opcodes
-writes : (o : Op) (b : Bool) → entry_count o ≡ 1
+writes : (o : Op) (b : Bool) → command_count o ≡ 1
     → (((eqb (first_opcode o) 1 || eqb (first_opcode o) 8) && b) || false) ≡ (has_write (Some o) && b)
 writes Op.Read b h = refl
 writes Op.Compare b h = refl

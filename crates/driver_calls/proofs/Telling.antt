@@ -3,7 +3,7 @@ use Rattle.std.proofs.Common.{◌≡◌, ℕ, Bool, true, false, ◌&&◌, ◌||
 use Rattle.std.proofs.Common.{subst, Some, eqb, eqb-true, slice_get, nat_lt}
 use Rattle.std.specs.List.{list_all}
 use Rattle.std.proofs.lemmas.Bool.{and_parts, and_from, not_from_false}
-use Rattle.nvme_model.specs.Completions.{posted_completions, reaped_count}
+use Rattle.nvme_model.specs.Completions.{posted_completions, reaped_count, reaped_payload}
 use Rattle.nvme_model.specs.Config.{completion_queue}
 use Rattle.nvme_model.specs.History.{Past}
 use Rattle.nvme_model.specs.Legal.{IsLegal}
@@ -22,7 +22,6 @@ use Rattle.host_laws.proofs.Beside.{published_beside, reaped_post_beside}
 use Rattle.host_laws.proofs.Book.{book_beside, book_empty, book_found, book_reaped}
 use Rattle.host_laws.proofs.Elements.{same_some}
 use Rattle.host_laws.proofs.Reaps.{reap_answers, reaped_later}
-use Rattle.controller_interface.specs.State.{reaped_payload}
 use Rattle.driver_calls.specs.Events.{IsToldByLog, event_at, events, waiting_number}
 use Rattle.driver_calls.specs.Log.{after_got, is_tidy, is_tidy_batch, names_cid, newest, state_of}
 use Rattle.driver_calls.specs.declared.event.CidState.{CidState}

@@ -21,11 +21,6 @@ first_opcode Op.Write = 1
 first_opcode Op.WriteZeroes = 8
 first_opcode Op.Pair = 5
 
--- how many entries an operation has
-abbrev pub entry_count : Op → ℕ
-entry_count Op.Pair = 2
-entry_count _ = 1
-
 -- the data of each entry of a call, in order
 abbrev pub payloads_of : CallData → List (List ℕ)
 payloads_of (CallData.One payload) = payload ∷ []

@@ -1,7 +1,7 @@
 -- The events of a port in a shared history: the Publishes to the submission queues of one completion queue, and the
 -- Reaps of it, by one pass.
 use Rattle.std.specs.Prelude.{List, [], if◌then◌else◌, slice_get, ℕ, ◌++◌, ◌==◌, ◌≡◌, ◌∷◌}
-use Rattle.nvme_model.specs.Completions.{posted_completions, reaped_count}
+use Rattle.nvme_model.specs.Completions.{posted_completions, reaped_count, reaped_payload}
 use Rattle.nvme_model.specs.Config.{completion_queue}
 use Rattle.nvme_model.specs.History.{Past}
 use Rattle.nvme_model.specs.Passes.{SharedPast, entries}
@@ -11,7 +11,6 @@ use Rattle.nvme_model.specs.declared.entry.Entry.{Entry}
 use Rattle.nvme_model.specs.declared.entry.PostLine.{PostLine}
 use Rattle.host_laws.specs.Book.{IsBook}
 use Rattle.host_laws.specs.Calls.{reaped_post}
-use Rattle.controller_interface.specs.State.{reaped_payload}
 use Rattle.driver_calls.specs.Log.{newest, sent, state_of}
 use Rattle.driver_calls.specs.declared.event.CidState.{CidState}
 use Rattle.driver_calls.specs.declared.event.PortEvent.{PortEvent}

@@ -2,8 +2,9 @@
 
 ghost use Rattle.std.specs.Prelude.{[], length, map, vec_capacity, ℕ, ◌≡◌, ◌≤◌, IfOk};
 ghost use Rattle.nvme_model.specs.declared.operation.Op.{Op};
+ghost use Rattle.nvme_model.specs.Operations.{command_count};
 ghost use Rattle.entry_codec.specs.Fuse.{fuse_number};
-ghost use Rattle.driver_calls.specs.Entries.{IsBatch, IsCommand, entry_count, first_opcode, payloads_of};
+ghost use Rattle.driver_calls.specs.Entries.{IsBatch, IsCommand, first_opcode, payloads_of};
 ghost use Rattle.driver_calls.specs.declared.request.CallData.{CallData};
 
 use crate::request::{CallData, Request};
@@ -19,7 +20,7 @@ use std::alloc::{AllocError as NoMemory, Global};
 /// `NoMemory` alone.
 pub fn room_for(alloc: Global, op: Op) -> Result<Vec<Submission>, NoMemory>
     ensures empty { IfOk result (λ room. room.items ≡ []) }
-    ensures capacity { IfOk result (λ room. entry_count op ≤ vec_capacity room) }
+    ensures capacity { IfOk result (λ room. command_count op ≤ vec_capacity room) }
 {
     Vec::with_capacity(alloc, if op == Op::Pair { 2 } else { 1 })
 }
@@ -61,9 +62,9 @@ pub fn batch_of(
 ) -> Submissions
     requires some { 1 ≤ request.blocks }
     requires most { request.blocks ≤ 65536 }
-    requires contents { length (payloads_of contents) ≡ entry_count request.op }
+    requires contents { length (payloads_of contents) ≡ command_count request.op }
     requires empty { room.items ≡ [] }
-    requires capacity { entry_count request.op ≤ vec_capacity room }
+    requires capacity { command_count request.op ≤ vec_capacity room }
     ensures is { IsBatch request.op request.slba request.blocks first second contents result }
 {
     let mut room = room;

@@ -4,7 +4,7 @@ ghost use Rattle.std.specs.Prelude.{List, Some, [], length, map, take, true, ℕ
 ghost use Rattle.std.specs.Prelude.{◌≤◌};
 ghost use Rattle.std.specs.List.{list_all, list_any};
 ghost use Rattle.nvme_model.specs.Array.{overlap};
-ghost use Rattle.nvme_model.specs.Operations.{has_write};
+ghost use Rattle.nvme_model.specs.Operations.{command_count, has_write};
 ghost use Rattle.nvme_model.specs.Slots.{is_pair_on_one, touches};
 ghost use Rattle.nvme_model.specs.declared.array.Range.{Range};
 ghost use Rattle.nvme_model.specs.declared.operation.Op.{Op};
@@ -12,7 +12,7 @@ ghost use Rattle.nvme_model.specs.declared.submission.Submission.{Submission};
 ghost use Rattle.host_laws.specs.Book.{cid_of};
 ghost use Rattle.host_laws.specs.Calls.{is_proper};
 ghost use Rattle.driver_calls.specs.Says.{IsFusedIn, IsSingleIn};
-ghost use Rattle.driver_calls.specs.Entries.{IsBatch, IsCommand, entry_count, payloads_of};
+ghost use Rattle.driver_calls.specs.Entries.{IsBatch, IsCommand, payloads_of};
 ghost use Rattle.driver_calls.specs.declared.request.CallData.{CallData};
 
 /// The entry of a command has its CID, names namespace 1 with zeros where this profile wants them, and touches slots
@@ -32,14 +32,14 @@ pub fn an_entry_is_its_command()
 /// stand, they are a command by itself that does the operation, or a pair.
 pub fn the_entries_of_a_call()
     ensures count { (o : Op) (slba blocks first second : ℕ) (contents : CallData) (batch : List Submission) →
-        IsBatch o slba blocks first second contents batch → length batch ≡ entry_count o }
+        IsBatch o slba blocks first second contents batch → length batch ≡ command_count o }
     ensures payloads { (o : Op) (slba blocks first second : ℕ) (contents : CallData) (batch : List Submission) →
         IsBatch o slba blocks first second contents batch → map (λ s. s.payload) batch ≡ payloads_of contents }
     ensures cids { (o : Op) (slba blocks first second : ℕ) (contents : CallData) (batch : List Submission) →
         IsBatch o slba blocks first second contents batch →
-        map cid_of batch ≡ take (entry_count o) (first ∷ second ∷ []) }
+        map cid_of batch ≡ take (command_count o) (first ∷ second ∷ []) }
     ensures single { (o : Op) (slba blocks first second : ℕ) (contents : CallData) (before batch : List Submission) →
-        IsBatch o slba blocks first second contents batch → entry_count o ≡ 1 →
+        IsBatch o slba blocks first second contents batch → command_count o ≡ 1 →
         IsSingleIn (before ++ batch) (length before) o }
     ensures fused { (slba blocks first second : ℕ) (contents : CallData) (before batch : List Submission) →
         IsBatch Op.Pair slba blocks first second contents batch → IsFusedIn (before ++ batch) (length before) }

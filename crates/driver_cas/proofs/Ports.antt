@@ -7,7 +7,7 @@ use Rattle.std.proofs.lemmas.Bool.Decides.{nat_tests}
 use Rattle.nvme_model.specs.Queues.{fetched_count, published_entries}
 use Rattle.nvme_model.specs.Tables.{first_row}
 use Rattle.std.specs.Prelude.{unwrap_or, slice_get}
-use Rattle.nvme_model.specs.Completions.{posted_completions, reaped_count}
+use Rattle.nvme_model.specs.Completions.{posted_completions, reaped_count, reaped_payload}
 use Rattle.nvme_model.specs.Config.{completion_queue}
 use Rattle.nvme_model.specs.History.{Past}
 use Rattle.nvme_model.specs.Passes.{IsBeginning, SharedPast, entries, places}
@@ -32,7 +32,7 @@ use Rattle.driver_cas.specs.Reaps.{IsReapAnswered, IsReapFault, IsReapUnmade, ca
 use Rattle.driver_cas.specs.declared.fault.PortFault.{PortFault}
 use Rattle.driver_cas.specs.declared.port.Reaped.{Reaped}
 use Rattle.work_queue.specs.Engines.{EnginePass}
-use Rattle.controller_interface.specs.State.{Accepts, Refuses, answer_of, reaped_payload}
+use Rattle.controller_interface.specs.State.{Accepts, Refuses, answer_of}
 use Rattle.controller_interface.specs.declared.answer.Answer.{Answer}
 use Rattle.controller_interface.specs.declared.answer.Refused.{Refused}
 use Rattle.driver_calls.specs.Events.{event_at, events}

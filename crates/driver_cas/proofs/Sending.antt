@@ -3,7 +3,7 @@ use Rattle.std.proofs.Common.{◌≡◌, ℕ, Bool, true, false, not, cond, ◌&
 use Rattle.std.proofs.Common.{Some, refl, sym, ap, ap₂, ◌∙◌, subst, inl, inr, eq-eqb, arith, ◌<◌, ◌≤◌, nat_lt, lt-ltb}
 use Rattle.std.proofs.lemmas.Bool.{and_from, cases_Bool, cond-true, cond-false, ne_eqb}
 use Rattle.plain_lemmas.proofs.Numbers.{eqb_swapped}
-use Rattle.nvme_model.specs.Operations.{is_pair}
+use Rattle.nvme_model.specs.Operations.{command_count, is_pair}
 use Rattle.nvme_model.specs.declared.operation.Op.{Op}
 use Rattle.nvme_model.specs.declared.submission.Submission.{Submission}
 use Rattle.host_laws.specs.Book.{cid_of}
@@ -17,7 +17,7 @@ use Rattle.driver_calls.specs.Views.{since}
 use Rattle.driver_calls.specs.declared.event.CidState.{CidState}
 use Rattle.driver_calls.specs.declared.event.PortEvent.{PortEvent}
 use Rattle.driver_calls.proofs.Logs.{unnamed_number}
-use Rattle.driver_calls.specs.Entries.{IsBatch, IsCommand, entry_count, first_opcode}
+use Rattle.driver_calls.specs.Entries.{IsBatch, IsCommand, first_opcode}
 use Rattle.driver_calls.specs.declared.request.CallData.{CallData}
 use Rattle.driver_calls.proofs.Calls.{by_call, call_fused, call_single, one_made}
 use Rattle.driver_calls.proofs.Commands.{command_cid}
@@ -32,7 +32,7 @@ or_none : (b : Bool) → (b || false) ≡ b
 or_none true = refl
 or_none false = refl
 
-single_op : (o : Op) → entry_count o ≡ 1 → is_pair (Some o) ≡ false
+single_op : (o : Op) → command_count o ≡ 1 → is_pair (Some o) ≡ false
 single_op Op.Read h = refl
 single_op Op.Compare h = refl
 single_op Op.Write h = refl
@@ -104,7 +104,7 @@ sent_matches old new log queue l n first second o contents batch m taken is q i 
 
 -- ---- the call's entries stand in the log
 
-call_in : (log : List PortEvent) (queue : ℕ) (o : Op) (first second j : ℕ) → entry_count o ≡ 1
+call_in : (log : List PortEvent) (queue : ℕ) (o : Op) (first second j : ℕ) → command_count o ≡ 1
     → IsSingleIn (sent log queue) j o → newest log queue first ≡ Some j → IsCallIn log queue o first second j
 call_in log queue Op.Read first second j h s e = (s, e)
 call_in log queue Op.Compare first second j h s e = (s, e)
@@ -155,7 +155,7 @@ sent_call log queue l n first second o contents batch unlike is =
     ))
     o contents batch is unlike
   where
-    one_batch : (o : Op) (l n first second : ℕ) (payload : List ℕ) (s : Submission) → entry_count o ≡ 1
+    one_batch : (o : Op) (l n first second : ℕ) (payload : List ℕ) (s : Submission) → command_count o ≡ 1
         → IsCommand s (first_opcode o) 0 first l n payload → IsBatch o l n first second (CallData.One payload) (s ∷ [])
     one_batch o l n first second payload s h c = one_made o l n first second payload s h c
 

@@ -3,7 +3,8 @@ use Rattle.std.specs.Prelude.{Contains, Err, List, Ok, Result, [], length, vec_c
 use Rattle.driver_cas.specs.Cids.{queues_of}
 use Rattle.nvme_model.specs.declared.operation.Op.{Op}
 use Rattle.nvme_model.specs.declared.submission.Submission.{Submission}
-use Rattle.driver_calls.specs.Entries.{IsBatch, entry_count}
+use Rattle.nvme_model.specs.Operations.{command_count}
+use Rattle.driver_calls.specs.Entries.{IsBatch}
 use Rattle.driver_calls.specs.declared.request.CallData.{CallData}
 use Rattle.driver_calls.specs.declared.request.Request.{Request}
 use Rattle.driver_calls.specs.declared.event.PortEvent.{PortEvent}
@@ -54,7 +55,7 @@ module _ {P : Type 0} {g : Ghosts P} where
   IsTried d e queue r contents (Tried.Started k) =
       (k.queue ≡ queue) × (k.op ≡ r.op) × ((batch : List Submission) × Sends d e k r.slba r.blocks contents batch)
   IsTried d e queue r contents (Tried.Full c room) =
-      IsAsBefore d e × (c ≡ contents) × (room.items ≡ []) × (entry_count r.op ≤ vec_capacity room)
+      IsAsBefore d e × (c ≡ contents) × (room.items ≡ []) × (command_count r.op ≤ vec_capacity room)
       × IsRefusedFor d d.port e.port queue r contents PortFault.RingFull
   IsTried d e queue r contents (Tried.Stopped Fault.Busy) =
       IsAsBefore d e × IsRefusedFor d d.port e.port queue r contents PortFault.Busy

@@ -2,10 +2,9 @@
 
 ghost use Rattle.std.specs.Prelude.{[], ◌*◌, ◌+◌, ◌≡◌, ◌≤◌, All, false, length, true};
 ghost use Rattle.driver_cas.specs.Cids.{queues_of};
-ghost use Rattle.driver_calls.specs.Entries.{entry_count};
 ghost use Rattle.driver_calls.specs.declared.request.CallData.{CallData};
 ghost use Rattle.nvme_model.specs.Array.{overlap as overlap_of};
-ghost use Rattle.nvme_model.specs.Operations.{has_write};
+ghost use Rattle.nvme_model.specs.Operations.{command_count, has_write};
 ghost use Rattle.nvme_model.specs.declared.operation.Op.{Op};
 ghost use Rattle.std.specs.Prelude.{Some};
 ghost use Rattle.driver_cas.specs.Drivers.{IsSameDriver};
@@ -89,7 +88,7 @@ impl<P: Port> Driver<P> {
         bytes: usize,
         contents: &[u8],
     ) -> Result<Call<P>, Fault>
-        requires { entry_count op ≡ 1 }
+        requires { command_count op ≡ 1 }
         ensures same { IsSameDriver self.old self.new }
         ensures later { P.follows self.old.port self.new.port }
         ensures is { IsStart self.old self.new (request_of self.old.acwu self.old.slots op slba bytes)

@@ -2,13 +2,14 @@
 
 ghost use Rattle.std.specs.Prelude.{[], ◌∷◌, ◌≡◌, ◌≤◌, ◌<◌, Contains, IfErr, IfNone, IfOk, IfSome, OnSome, length};
 ghost use Rattle.std.specs.Prelude.{true, vec_capacity};
-ghost use Rattle.driver_calls.specs.Entries.{entry_count, payloads_of};
+ghost use Rattle.driver_calls.specs.Entries.{payloads_of};
 ghost use Rattle.driver_cas.specs.Drivers.{IsSameDriver};
 ghost use Rattle.driver_cas.specs.Tries.{IsTryBegun, IsNotSent, IsTried};
 ghost use Rattle.driver_cas.specs.Cids.{queues_of};
 ghost use Rattle.driver_calls.specs.declared.event.PortEvent.{PortEvent};
 ghost use Rattle.driver_cas.specs.Starts.{IsSent, IsTaken};
 ghost use Rattle.driver_cas.specs.Turns.{AreFree, HasTooFew};
+ghost use Rattle.nvme_model.specs.Operations.{command_count};
 
 use crate::call::Call;
 use crate::cid_table::{CidTable, TwoCids};
@@ -115,8 +116,8 @@ impl<P: Port> Driver<P> {
         requires known { Contains (queues_of self.old.cids) queue }
         requires free { AreFree self.old.cids request.op queue two.first two.second }
         requires blocks { (1 ≤ request.blocks) × (request.blocks ≤ 65536) }
-        requires contents { length (payloads_of contents) ≡ entry_count request.op }
-        requires room { (room.items ≡ []) × (entry_count request.op ≤ vec_capacity room) }
+        requires contents { length (payloads_of contents) ≡ command_count request.op }
+        requires room { (room.items ≡ []) × (command_count request.op ≤ vec_capacity room) }
         ensures same { IsSameDriver self.old self.new }
         ensures later { P.follows self.old.port self.new.port }
         ensures tried { IsTried self.old self.new queue request contents result }
@@ -148,8 +149,8 @@ impl<P: Port> Driver<P> {
         room: Vec<Submission>,
     ) -> Result<Call<P>, Fault>
         requires blocks { (1 ≤ request.blocks) × (request.blocks ≤ 65536) }
-        requires contents { length (payloads_of contents) ≡ entry_count request.op }
-        requires room { (room.items ≡ []) × (entry_count request.op ≤ vec_capacity room) }
+        requires contents { length (payloads_of contents) ≡ command_count request.op }
+        requires room { (room.items ≡ []) × (command_count request.op ≤ vec_capacity room) }
         ensures same { IsSameDriver self.old self.new }
         ensures later { P.follows self.old.port self.new.port }
         ensures is { IsTryBegun self.old self.new request contents result }

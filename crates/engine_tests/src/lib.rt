@@ -2,6 +2,7 @@
 //! and carry is tested in `queue_tests`, apart since the check of each takes minutes.
 //!
 //! - `rows`: worked runs by passes of a lock, and by works and notices on one thread.
+//! - `forgets`: a controller that forgets under its lock.
 //! - `threads`: four threads write through one lock, and the history has what each was told.
 #![tactic(auto)]
 
@@ -9,6 +10,8 @@
 mod accounts;
 #[cfg(test)]
 mod crew;
+#[cfg(test)]
+mod forgets;
 #[cfg(test)]
 mod passes;
 #[cfg(test)]

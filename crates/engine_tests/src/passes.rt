@@ -82,7 +82,7 @@ fn locked(alloc: Global, config: Config) -> Result<(Shared<Core>, Three), Fail>
 }
 
 /// How the step by a pass was answered: 0 or the number of its refusal.
-fn attempted(shared: &Shared<Core>, pass: &mut Pass<Core>, step: Step) -> u8
+pub(crate) fn attempted(shared: &Shared<Core>, pass: &mut Pass<Core>, step: Step) -> u8
     requires { IsPassOfLock shared.now pass.old }
     ensures { IsSame pass.old pass.new }
 {

@@ -7,15 +7,16 @@ use Rattle.nvme_model.specs.declared.config.ConfigNumbers.{ConfigNumbers}
 use Rattle.trace.specs.declared.options.TraceOptions.{TraceOptions}
 use Rattle.trace.specs.declared.seen.Seen.{Seen}
 use Rattle.trace.specs.Aside.{history_numbers}
-use Rattle.casdisk_texts.specs.Traces.{HasTrace}
+use Rattle.casdisk_texts.specs.Traces.{HasTrace, IsTraceUnread}
+use Rattle.casdisk_texts.specs.declared.fault.RunFault.{RunFault}
 use Rattle.refutation.specs.Refutations.{Refutation as Certificate}
 use Rattle.file_commands.proofs.Told.{IsTrace, has_trace}
-use Rattle.file_commands.specs.Refuting.{HasRefutation, RefutesText, RefutesTrace, TellsRefuted, refute_text}
+use Rattle.file_commands.specs.Refuting.{HasRefutation, RefutesAs, RefutesTrace, TellsRefuted, refute_line}
 use Rattle.file_commands.specs.Refuting.{verdict_of}
 use Rattle.file_commands.specs.declared.refute_fault.RefuteFault.{RefuteFault}
 use Rattle.file_commands.specs.declared.refute_fault.RefuteFault.TheVariants.{Output, Refutation, Trace}
 
-module _ (o : TraceOptions) (b c : ConfigNumbers) (things : List Seen) (r : Certificate) where
+module _ (json : Bool) (o : TraceOptions) (b c : ConfigNumbers) (things : List Seen) (r : Certificate) where
   -- the text says this refutation
   abbrev IsSaid : List ℕ → Type 0
   IsSaid = HasRefutation (λ s. s ≡ r)
@@ -33,18 +34,19 @@ module _ (o : TraceOptions) (b c : ConfigNumbers) (things : List Seen) (r : Cert
   -- both were read, and this was answered on what they say
   pub refuted : (answer : Bool) (res : Result Bool RefuteFault) (t u x l v w : Option (List ℕ))
       → IsAtEnd u × IfSome t (IsTrace o b c things) → IsAtEnd l × IfSome x IsSaid → RefutesTrace o c things r answer
-      → TellsRefuted (verdict_of answer things r) answer res v w → RefutesText res t u x l v w
+      → TellsRefuted json (verdict_of answer things r) answer res v w → RefutesAs json res t u x l v w
   refuted answer (Ok a) t u x l v w read said holds told = (
     read.0,
     said.0,
     has_both
-        (λ p k xs s. RefutesTrace p k xs s a × Appends v w (refute_text (verdict_of a xs s))) t x read.1 said.1
-        (subst (λ (d : Bool). RefutesTrace o c things r d × Appends v w (refute_text (verdict_of d things r)))
+        (λ p k xs s. RefutesTrace p k xs s a × Appends v w (refute_line json (verdict_of a xs s))) t x read.1 said.1
+        (subst (λ (d : Bool). RefutesTrace o c things r d × Appends v w (refute_line json (verdict_of d things r)))
         (sym told.0) (holds, told.1)),
   )
   refuted answer (Err Output) t u x l v w read said holds told =
       has_both
-      (λ p k xs s. (d : Bool) × RefutesTrace p k xs s d × AppendsFront v w (refute_text (verdict_of d xs s)))
+      (λ p k xs s. (d : Bool) × RefutesTrace p k xs s d × AppendsFront v w (refute_line json (verdict_of d xs s)))
       t x read.1 said.1 (answer, holds, told)
-  refuted answer (Err (Trace f)) t u x l v w read said holds told = absurd told
+  refuted answer (Err (Trace f)) t u x l v w read said holds told =
+      (subst (λ (g : RunFault). IsTraceUnread g t u) (sym told.0) tt, told.1)
   refuted answer (Err (Refutation f)) t u x l v w read said holds told = absurd told

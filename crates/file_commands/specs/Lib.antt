@@ -3,3 +3,4 @@ pub mod Wrong
 pub mod Observing
 pub mod ToldText
 pub mod Refuting
+pub mod SlotObjects

@@ -1,6 +1,9 @@
 -- What is said of the text of a trace, and what is written of the history that explains it, or of what refutes it.
-use Rattle.std.specs.Prelude.{◌++◌, ◌∷◌, [], codes, reverse, ℕ, Err, IfSome, List, Ok, Option, Result}
+use Rattle.std.specs.Prelude.{◌++◌, ◌==◌, ◌∷◌, ◌≡◌, [], codes, decimal, reverse, slice_get, ℕ, Err, IfSome, List, None}
+use Rattle.std.specs.Prelude.{Ok, Option, Result, Some}
+use Rattle.std.specs.List.{slice_split}
 use Rattle.std.specs.Io.KnownBytes.{Appends, IsAtEnd, Keeps}
+use Rattle.casdisk_texts.specs.Objects.{AnswerFields, plain_fields}
 use Rattle.casdisk_texts.specs.Traces.{HasTrace, IsTraceUnread}
 use Rattle.casdisk_texts.specs.declared.fault.RunFault.{RunFault}
 use Rattle.casdisk_texts.specs.declared.fault.RunFault.TheVariants.{BadConfig, BadLine, Input, NoMemory, Output}
@@ -23,6 +26,28 @@ answer_status Explained = 0
 answer_status Refuted = 1
 answer_status NotFound = 6
 answer_status GaveUp = 5
+
+-- what is answered, in a word
+abbrev pub answer_word : TraceAnswer → List ℕ
+answer_word Explained = codes "explained"
+answer_word Refuted = codes "refuted"
+answer_word NotFound = codes "not found"
+answer_word GaveUp = codes "gave up"
+
+-- the fields of an answer, with the line of the file up to which it says that there is no history
+abbrev pub trace_fields : TraceAnswer → Option ℕ → AnswerFields
+trace_fields answer line = record (plain_fields (answer_word answer)) { line = line }
+
+-- the word of a text at this place, from 0, is this number with a colon behind it
+abbrev pub HasNumberAt : List ℕ → ℕ → ℕ → Type 0
+HasNumberAt text at n = slice_get (slice_split (λ b. b == 32) text) at ≡ Some (decimal n ++ 58 ∷ [])
+
+-- The line that a text names: behind `refuted: up to line` or `not found: up to line`.
+abbrev pub IsLineIn : List ℕ → TraceAnswer → Option ℕ → Type 0
+IsLineIn text Refuted line = IfSome line (HasNumberAt text 4)
+IsLineIn text NotFound line = IfSome line (HasNumberAt text 5)
+IsLineIn text Explained line = line ≡ None
+IsLineIn text GaveUp line = line ≡ None
 
 -- the line where a history explains the trace
 abbrev pub explained_text : List ℕ

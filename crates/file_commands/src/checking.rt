@@ -15,7 +15,7 @@ use std::alloc::Global;
 use std::io::{Read, Result as IoResult, Write};
 
 // Writes `slots bad at K`.
-fn send_wrong<W: Write>(place: u64, writer: &mut W) -> IoResult<()>
+pub(crate) fn send_wrong<W: Write>(place: u64, writer: &mut W) -> IoResult<()>
     ensures whole { OnOk result (Appends (W.contents writer.old) (W.contents writer.new) (wrong_text place)) }
     ensures front { OnErr result (AppendsFront (W.contents writer.old) (W.contents writer.new) (wrong_text place)) }
 {

@@ -1,13 +1,12 @@
 //! The first line of a history that is told.
 
-ghost use Rattle.std.specs.Prelude.{◌≡◌, ◌++◌, ◌∷◌, [], Err, IfErr, IfOk, List, Option, ℕ};
+ghost use Rattle.std.specs.Prelude.{◌≡◌, [], Err, IfErr, IfOk, List, Option, ℕ};
 ghost use Rattle.std.specs.Io.KnownBytes.{Appends};
 ghost use Rattle.line_text.specs.Known.{AppendsFront};
 ghost use Rattle.casdisk_texts.specs.Running.{PrintsFront, Reached, RunsScript};
-ghost use Rattle.history_words.specs.Told.{config_painted};
-ghost use Rattle.history_words.specs.declared.paint.Paint.{Paint};
 ghost use Rattle.casdisk_texts.specs.Fault.{fault_of_read};
-ghost use Rattle.file_commands.specs.ToldText.{told_text, told_line};
+ghost use Rattle.file_commands.specs.ToldText.{config_as, told_text, told_line};
+ghost use Rattle.file_commands.specs.declared.telling.Telling.{Telling};
 
 use casdisk_texts::RunFault;
 use history::{Config, LineFault, read_config_line};
@@ -34,13 +33,13 @@ pub(crate) fn read_opening<R: Read>(
     reader: &mut R,
 ) -> Result<ConfigNumbers, RunFault>
     requires fresh { lines.old ≡ [] }
-    ensures stopped { (paint : Paint) (w : Option (List ℕ)) → IfErr result
-        (λ f. RunsScript (told_text paint) (Err f) (R.remaining reader.old) (R.remaining reader.new) w w) }
-    ensures front { (paint : Paint) (w u : Option (List ℕ)) → IfOk result
-        (λ c. AppendsFront w u (config_painted paint c ++ 10 ∷ []) →
-        PrintsFront (told_text paint) (R.remaining reader.old) (R.remaining reader.new) w u) }
-    ensures begun { (paint : Paint) (w u : Option (List ℕ)) → IfOk result
-        (λ c. Appends w u (config_painted paint c ++ 10 ∷ []) → Reached (told_text paint) (told_line paint) [] 2
+    ensures stopped { (telling : Telling) (w : Option (List ℕ)) → IfErr result
+        (λ f. RunsScript (told_text telling) (Err f) (R.remaining reader.old) (R.remaining reader.new) w w) }
+    ensures front { (telling : Telling) (w u : Option (List ℕ)) → IfOk result
+        (λ c. AppendsFront w u (config_as telling c) →
+        PrintsFront (told_text telling) (R.remaining reader.old) (R.remaining reader.new) w u) }
+    ensures begun { (telling : Telling) (w u : Option (List ℕ)) → IfOk result
+        (λ c. Appends w u (config_as telling c) → Reached (told_text telling) (told_line telling) [] 2
         (R.remaining reader.old) (R.remaining reader.new) w u lines.new) }
 {
     match lines.next_line(reader, line) {

@@ -9,3 +9,4 @@ pub mod LinesAgain
 pub mod OneSpelling
 pub mod ConfigLaws
 pub mod LinesOut
+pub mod Forgetting

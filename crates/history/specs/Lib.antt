@@ -1,5 +1,6 @@
 pub mod Config
 pub mod Kept
+pub mod Gone
 pub mod ConfigLine
 pub mod Gives
 pub mod StatusWord

@@ -4,11 +4,13 @@
 mod batch;
 mod config;
 mod config_line;
+mod gone;
 mod kinds;
 mod laws;
 mod line_fault;
 mod lines_there;
 mod marks;
+mod part;
 mod past;
 mod printing;
 mod reading;

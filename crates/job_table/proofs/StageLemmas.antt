@@ -1,15 +1,15 @@
 -- What is kept of where a ticket stands.
 use Rattle.std.proofs.Common.{List, Some, arith, false, length, refl, sym, ℕ, ◌∙◌, ◌≡◌}
-use Rattle.nvme_model.specs.Operations.{is_pair}
+use Rattle.nvme_model.specs.Operations.{command_count, is_pair}
 use Rattle.nvme_model.specs.Verdict.{taken_entries}
 use Rattle.nvme_model.specs.declared.operation.Op.{Op}
 use Rattle.fused_match.specs.Judged.{IsSound, verdict_by}
 use Rattle.fused_match.specs.declared.judged.Judged.{Judged}
 use Rattle.fused_match.specs.declared.judged.Judged.TheVariants as judged
-use Rattle.job_table.specs.Stages.{IsTicketProgress, commands_in, first_ticket_stage}
+use Rattle.job_table.specs.Stages.{IsTicketProgress, first_ticket_stage}
 
 -- what is no pair has one command
-one_command : (o : Op) → is_pair (Some o) ≡ false → commands_in o ≡ 1
+one_command : (o : Op) → is_pair (Some o) ≡ false → command_count o ≡ 1
 one_command Op.Read e = refl
 one_command Op.Compare e = refl
 one_command Op.Write e = refl

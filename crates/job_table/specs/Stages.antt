@@ -2,7 +2,7 @@
 use Rattle.std.specs.Prelude.{Bool, List, None, Option, Some, [], drop, false, if◌then◌else◌, length, true, ℕ, ◌+◌}
 use Rattle.std.specs.Prelude.{◌==◌, ◌∷◌, ◌≡◌, ◌≤◌}
 use Rattle.nvme_model.specs.Statuses.{success}
-use Rattle.nvme_model.specs.Operations.{has_write}
+use Rattle.nvme_model.specs.Operations.{command_count, has_write}
 use Rattle.nvme_model.specs.declared.array.Mode.{Mode}
 use Rattle.nvme_model.specs.declared.array.Range.{Range}
 use Rattle.nvme_model.specs.declared.config.AtomicParameters.{AtomicParameters}
@@ -25,16 +25,11 @@ pub record Ticking : Type 0 where
 
 -- ---- what is kept of it
 
--- how many commands an operation has
-abbrev pub commands_in : Op → ℕ
-commands_in Op.Pair = 2
-commands_in _ = 1
-
 -- some blocks are left, in few units
 pub record IsTicketWaiting (o : Op) (u : ℕ) (left : Range) (cids : List ℕ) : Type 0 where
   pub range : IsRange left
   pub few : u + left.blocks ≤ 65536
-  pub each : length cids ≡ commands_in o
+  pub each : length cids ≡ command_count o
 
 -- the unit goes on, and the blocks that are left lie behind it
 pub record IsOpenUnit (p : UnitProgress) (u : ℕ) (left : Range) (cids : List ℕ) : Type 0 where
@@ -43,7 +38,7 @@ pub record IsOpenUnit (p : UnitProgress) (u : ℕ) (left : Range) (cids : List �
   pub within : left.slba + left.blocks ≤ 65536
   pub few : u + 1 + left.blocks ≤ 65536
   pub whole : p.op ≡ Op.Pair → left.blocks ≡ 0
-  pub each : length cids ≡ commands_in p.op
+  pub each : length cids ≡ command_count p.op
 
 -- what is so of each stage, with the CIDs that still wait for a completion
 abbrev pub IsTicketProgress : TicketStage → List ℕ → Type 0

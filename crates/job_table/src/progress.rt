@@ -9,7 +9,8 @@ ghost use Rattle.fused_match.specs.Judged.{IsSound, verdict_by};
 ghost use Rattle.block_exec.specs.Course.{done_by};
 ghost use Rattle.nvme_model.specs.Array.{IsRange};
 ghost use Rattle.nvme_model.specs.Open.{is_differs};
-ghost use Rattle.job_table.specs.Stages.{IsTicketProgress, between, commands_in, first_ticket_stage, mode_by};
+ghost use Rattle.nvme_model.specs.Operations.{command_count};
+ghost use Rattle.job_table.specs.Stages.{IsTicketProgress, between, first_ticket_stage, mode_by};
 ghost use Rattle.job_table.specs.declared.progress.TicketStage.TheVariants.{Owing};
 
 use crate::cids::OwedCids;
@@ -192,7 +193,7 @@ impl TicketProgress {
 fn stage_behind(op: Op, unit: u64, left: Range, found: Found) -> TicketStage
     requires few { unit + 1 + left.blocks ≤ 65536 }
     requires range { left.slba + left.blocks ≤ 65536 }
-    ensures law { (cids : List ℕ) → length cids ≡ commands_in op → IsTicketProgress result cids }
+    ensures law { (cids : List ℕ) → length cids ≡ command_count op → IsTicketProgress result cids }
     ensures value { result ≡ (if is_differs found then Owing (on_differs op) else between op (unit + 1) left) }
 {
     if found == Found::Differs {

@@ -98,6 +98,14 @@ module _ {M : Type 0} where
   Declines refuses p q step (Declined.Busy s) = (s ≡ step) × (seen q ≡ seen p) × (mine q ≡ mine p)
   Declines refuses p q step (Declined.Refused r) = (mine q ≡ mine p) × refuses (config_of p) (entries (seen q)) step r
 
+  -- What was told is of a machine that is configured as the pass knows, and whose history is what the pass has seen.
+  pub record Glanced {T : Type 0} (config : M → ConfigNumbers) (history : M → Past) (tells : M → T → Type 0)
+      (q : Pass M) (t : T) : Type 0 where
+    pub machine : M
+    pub config_is : config machine ≡ config_of q
+    pub history_is : history machine ≡ entries (seen q)
+    pub told : tells machine t
+
   -- Both have seen the same legal history. It begins with what each had seen, and `mine` stays.
   pub record Met (legal : ConfigNumbers → Past → Type 0) (p1 p2 q1 q2 : Pass M) : Type 0 where
     pub same : seen q1 ≡ seen q2

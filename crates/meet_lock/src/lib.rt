@@ -4,6 +4,7 @@
 //! Busy.
 #![tactic(auto)]
 
+mod glance;
 mod laws;
 mod owner;
 mod pass;
@@ -13,6 +14,7 @@ mod shared;
 mod view;
 
 pub use controller_interface::Machine;
+pub use glance::Glance;
 pub use laws::{what_a_pass_has_seen, what_came_between_is_of_passes};
 pub use owner::{AnyPass, StepRight, TicketOwner};
 pub use pass::{Busy, Declined, Pass, Unmade};

@@ -9,6 +9,8 @@ ghost use Rattle.meet_lock.specs.Lock.{AreOfPasses};
 
 mod attempt;
 mod end;
+mod forget;
+mod glance;
 mod lock;
 mod meet;
 mod notes;

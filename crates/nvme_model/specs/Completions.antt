@@ -1,5 +1,6 @@
 -- The completions of the completion queues, and their bytes.
-use Rattle.std.specs.Prelude.{List, [], get_or, if◌then◌else◌, length, ℕ, ◌%◌, ◌++◌, ◌+◌, ◌/◌, ◌==◌, ◌∷◌}
+use Rattle.std.specs.Prelude.{List, None, Option, Some, [], get_or, if◌then◌else◌, length, ℕ, ◌%◌, ◌++◌, ◌+◌, ◌/◌}
+use Rattle.std.specs.Prelude.{◌==◌, ◌∷◌}
 use Rattle.nvme_model.specs.Config.{completion_queue}
 use Rattle.nvme_model.specs.declared.config.ConfigNumbers.{ConfigNumbers}
 use Rattle.nvme_model.specs.EntryBytes.{cqe_bytes}
@@ -22,6 +23,11 @@ abbrev pub reaped_count : Past → ℕ → ℕ
 reaped_count [] q = 0
 reaped_count (Entry.Reap r ∷ past) q = reaped_count past q + (if r.queue == q then 1 else 0)
 reaped_count (_ ∷ past) q = reaped_count past q
+
+-- the data of the completion that is reaped
+abbrev pub reaped_payload : Option PostLine → List ℕ
+reaped_payload None = []
+reaped_payload (Some p) = p.payload
 
 -- the phase of the k-th completion of a queue of m slots, k from 0 (Base 2.0, Phase Tag)
 abbrev pub phase : ℕ → ℕ → ℕ

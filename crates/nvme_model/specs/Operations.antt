@@ -32,6 +32,11 @@ op_by (Verdict.PairFailed s r) e = None
 abbrev pub op : Ticket → Option Op
 op k = op_by k.verdict (first_fields k)
 
+-- how many commands an operation has, each of one entry
+abbrev pub command_count : Op → ℕ
+command_count Op.Pair = 2
+command_count _ = 1
+
 -- it is a fused pair
 abbrev pub is_pair : Option Op → Bool
 is_pair (Some Op.Pair) = true

@@ -12,7 +12,7 @@ use Rattle.many_host_laws.specs.Closing.{HasRounds, KeepsSlots}
 use Rattle.race.specs.Slots.{PrintsRounds, PrintsSlots}
 use Rattle.history.specs.Texts.{history_text}
 use Rattle.race.specs.declared.fault.RaceFault.{RaceFault}
-use Rattle.race.specs.declared.fault.RaceFault.TheVariants.{BadAt, NoMemory, Output}
+use Rattle.race.specs.declared.fault.RaceFault.TheVariants.{BadAt, Forgotten, NoMemory, Output}
 
 -- where the check had no memory, the whole text was written
 pub unjudged : (c : ConfigNumbers) (entries : List Entry) (f : RaceFault) (old new : Option (List ℕ))
@@ -27,6 +27,7 @@ unjudged c entries f old new legal written is =
 pub told_late : (c : ConfigNumbers) (entries : List Entry) (f : RaceFault) (old new : Option (List ℕ))
     → TellsHistory c entries (Err f) old new → IsLate f
 told_late c entries (BadAt k) old new told = told
+told_late c entries Forgotten old new told = absurd told
 told_late c entries Output old new told = tt
 told_late c entries NoMemory old new told = tt
 

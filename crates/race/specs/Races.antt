@@ -1,6 +1,6 @@
 -- What a race writes.
 use Rattle.std.specs.Prelude.{All, Err, List, Ok, Option, Result, reverse, ℕ}
-use Rattle.std.specs.Io.KnownBytes.{Appends}
+use Rattle.std.specs.Io.KnownBytes.{Appends, Keeps}
 use Rattle.line_text.specs.Known.{AppendsFront}
 use Rattle.history.specs.Lines.{HasLine}
 use Rattle.nvme_model.specs.History.{Past}
@@ -9,7 +9,7 @@ use Rattle.nvme_model.specs.declared.config.ConfigNumbers.{ConfigNumbers}
 use Rattle.nvme_model.specs.declared.entry.Entry.{Entry}
 use Rattle.history.specs.Texts.{history_text}
 use Rattle.race.specs.declared.fault.RaceFault.{RaceFault}
-use Rattle.race.specs.declared.fault.RaceFault.TheVariants.{BadAt, NoMemory, Output}
+use Rattle.race.specs.declared.fault.RaceFault.TheVariants.{BadAt, Forgotten, NoMemory, Output}
 
 -- the whole text of a legal history, each of whose entries has a line, was written
 abbrev pub PrintsLegal : ConfigNumbers → Option (List ℕ) → Option (List ℕ) → Type 0
@@ -27,10 +27,13 @@ TellsHistory c entries (Ok x) old new = Appends old new (history_text c entries)
 TellsHistory c entries (Err Output) old new = AppendsFront old new (history_text c entries)
 TellsHistory c entries (Err NoMemory) old new = AppendsFront old new (history_text c entries)
 TellsHistory c entries (Err (BadAt k)) old new = ⊥
+TellsHistory c entries (Err Forgotten) old new = ⊥
 
--- By what a race answered. That its history isn't legal it never answers.
+-- By what a race answered. That its history isn't legal it never answers. Nothing is written of a history that isn't
+-- there whole.
 abbrev pub Races : ConfigNumbers → Result (Unit {0}) RaceFault → Option (List ℕ) → Option (List ℕ) → Type 0
 Races c (Ok x) old new = PrintsLegal c old new
 Races c (Err Output) old new = PrintsBeginning c old new
 Races c (Err NoMemory) old new = PrintsBeginning c old new
+Races c (Err Forgotten) old new = Keeps old new
 Races c (Err (BadAt k)) old new = ⊥

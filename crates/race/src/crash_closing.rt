@@ -2,10 +2,10 @@
 
 ghost use Rattle.std.specs.Prelude.{◌+◌, ◌≡◌, IfErr, IfOk, IfSome};
 ghost use Rattle.shared_system.specs.Callers.{AreCallersOf};
-ghost use Rattle.race_hosts.specs.Hosts.{IsSlotArea};
 ghost use Rattle.race_numbers.specs.Races.{race_config};
 ghost use Rattle.race.specs.Racers.{IsRaceFetcher};
 ghost use Rattle.race.specs.Crashes.{IsUnraced};
+ghost use Rattle.nvme_model.specs.Array.{IsRange};
 
 use crate::crash_fault::CrashFault;
 use crate::crash_racing::to_the_crash;
@@ -35,7 +35,7 @@ fn all_turns<R: Wait>(
 ) -> Result<CallerPasses, NoMemory>
     requires callers { AreCallersOf scene.now.system.now scene.now.play.now.config scene.now.race.now.workers callers }
     requires config { scene.now.play.now.config ≡ race_config scene.now.race.now }
-    requires slots { IsSlotArea scene.now.play.now.slots }
+    requires slots { IsRange scene.now.play.now.slots }
     ensures { IfOk result (IsRaceFetcher scene.now.system.now scene.now.play.now (scene.now.race.now.workers + 1)) }
 {
     let mut random = RandomNumbers::from_seed(seed);

@@ -13,7 +13,7 @@ pub enum CrashFault {
     /// A growth was refused, or a host couldn't begin a call.
     #[error("no memory")]
     NoMemory,
-    /// The controller wasn't given back.
+    /// The controller wasn't given back, or it had forgotten a part of its history.
     #[error("no history")]
     NoHistory,
     /// The entry at this place, from 1, is the first that breaks the discipline of the slots.

@@ -35,7 +35,7 @@ fn tell<W: Write>(
 }
 
 // Judges the history of a controller, and writes it where it keeps its slots.
-#[tactic(auto, using(crate::proofs::Telling::told, crate::proofs::Telling::untold))]
+#[tactic(auto, using(crate::proofs::Telling::told, crate::proofs::Telling::untold, crate::proofs::Telling::unraced))]
 fn finish<W: Write>(
     alloc: Global,
     core: &Core,
@@ -45,10 +45,12 @@ fn finish<W: Write>(
     requires few { slots.slba + slots.blocks ≤ 65536 }
     ensures { Crashes core.now.config slots result (W.contents writer.old) (W.contents writer.new) }
 {
-    let history = core.history();
-    judge(alloc, core, slots)?;
+    let Some(entries) = core.history().whole() else {
+        return Err(CrashFault::NoHistory);
+    };
+    judge(alloc, core, entries, slots)?;
     let config = core.config();
-    tell(alloc, &config, history.as_slice(), writer)
+    tell(alloc, &config, entries, writer)
 }
 
 /// Lets hosts race for slots on this thread, by turns that are drawn from the seed. So many of them as `crash` stop for

@@ -17,6 +17,9 @@ pub enum RaceFault {
     /// The history up to this place, from 1, isn't legal, and shorter beginnings are.
     #[error("bad at {0}")]
     BadAt(u64),
+    /// A part of the history was forgotten before it was written.
+    #[error("history forgotten")]
+    Forgotten,
     /// Writing failed.
     #[error("output failed")]
     Output,
@@ -28,7 +31,7 @@ impl RaceFault {
         ensures value { result ≡ race_exit_status self.now }
     {
         match self {
-            RaceFault::BadAt(_) => 1,
+            RaceFault::BadAt(_) | RaceFault::Forgotten => 1,
             RaceFault::Output => 3,
             RaceFault::NoMemory => 4,
         }

@@ -62,20 +62,28 @@ fn are_free(core: &Core, slots: Range) -> bool
     true
 }
 
-/// Judges the history of a controller.
+/// Judges the history of a controller, which has these entries.
 ///
 /// # Errors
 ///
 /// `SlotsAt` with the first entry that breaks the discipline of the slots; `SlotHeld` where one isn't free in the end;
 /// `NoMemory` where a growth was refused.
 #[tactic(auto, using(crate::proofs::Telling::judging))]
-pub(crate) fn judge(alloc: Global, core: &Core, slots: Range) -> Result<(), CrashFault>
+pub(crate) fn judge(
+    alloc: Global,
+    core: &Core,
+    entries: &[Entry],
+    slots: Range,
+) -> Result<(), CrashFault>
     requires few { slots.slba + slots.blocks ≤ 65536 }
+    requires whole { entries.now ≡ reverse core.now.past }
     ensures keeps { OnOk result (KeepsTakeovers core.now.config slots core.now.past) }
     ensures unkept { IfErr result (IsUnkept core.now.config slots core.now.past) }
 {
+    // A read tells the proof that the history is legal.
+    let _ = core.history();
     let config = core.config();
-    judge_each(alloc, &config, slots, core.history().as_slice())?;
+    judge_each(alloc, &config, slots, entries)?;
     if !are_free(core, slots) {
         return Err(CrashFault::SlotHeld);
     }

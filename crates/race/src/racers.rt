@@ -4,9 +4,9 @@ ghost use Rattle.std.specs.Prelude.{◌+◌, ◌≡◌, ◌≤◌, ◌<◌, IfOk
 ghost use Rattle.std.specs.Vec.{vec_capacity};
 ghost use Rattle.meet_lock.specs.Passes.{number};
 ghost use Rattle.shared_system.specs.Callers.{AreLastHosts, IsHostOf, IsLastPass};
-ghost use Rattle.race_hosts.specs.Hosts.{IsSlotArea};
 ghost use Rattle.race.specs.Ended.{EndDown, HasEnded};
 ghost use Rattle.race.specs.Racers.{AreOver, AreRacers, IsRacer, racer_pass};
+ghost use Rattle.nvme_model.specs.Array.{IsRange};
 
 use crate::servers::Servers;
 use hosts::OpenGate;
@@ -39,7 +39,7 @@ fn racer_of<'a>(
 ) -> Result<Racer<'a>, NoMemory>
     requires caller { IsHostOf system.now play.now.config caller }
     requires last { IsLastPass play.now.config (_servers + play.now.config.cqs) caller }
-    requires slots { IsSlotArea play.now.slots }
+    requires slots { IsRange play.now.slots }
     ensures racer { IfOk result (IsRacer system.entry.now play.now _servers) }
     ensures number { IfOk result (λ r. number (racer_pass r) ≡ number caller.pass) }
 {
@@ -104,7 +104,7 @@ pub(crate) fn racers_of<'a>(
     requires hosts { AreLastHosts system.now play.now.config (servers + play.now.config.cqs) hosts.items }
     requires count { vec_len hosts ≡ play.now.config.cqs }
     requires few { servers + vec_len hosts < 65536 }
-    requires slots { IsSlotArea play.now.slots }
+    requires slots { IsRange play.now.slots }
     ensures racers { IfOk result (λ r. AreRacers system.entry.now play.now servers r.items) }
     ensures count { IfOk result (λ r. vec_len r ≡ play.now.config.cqs) }
 {

@@ -4,13 +4,13 @@ ghost use Rattle.std.specs.List.{AllZip};
 ghost use Rattle.std.specs.Prelude.{◌+◌, ◌≡◌, ◌≤◌, All, IfErr, IfOk, OnOk, vec_len};
 ghost use Rattle.meet_lock.specs.Passes.{number};
 ghost use Rattle.shared_system.specs.Callers.{AreCallersOf, IsHostOf};
-ghost use Rattle.race_hosts.specs.Hosts.{IsSlotArea};
 ghost use Rattle.race_hosts.specs.Playing.{HasPlayed, HostPassesContinue};
 ghost use Rattle.race_numbers.specs.Races.{race_config};
 ghost use Rattle.race.specs.Ended.{EndDown, HasEnded};
 ghost use Rattle.race.specs.Faults.{IsEarly};
 ghost use Rattle.many_host_laws.specs.Closing.{HasRounds, KeepsSlots};
 ghost use Rattle.race.specs.Slots.{slots_of};
+ghost use Rattle.nvme_model.specs.Array.{IsRange};
 
 use crate::closing::{closed, room_for};
 use crate::fault::RaceFault;
@@ -37,7 +37,7 @@ fn all_threads<R: Threads + Wait + Sync>(
     _workers: u16,
 ) -> Result<Callers, NoMemory>
     requires callers { AreCallersOf system.now play.now.config _workers callers }
-    requires slots { IsSlotArea play.now.slots }
+    requires slots { IsRange play.now.slots }
     requires queues { 1 ≤ queues }
     ensures workers { IfOk result (λ h. EndDown (λ w. w.caller.pass) system.now.engine play.now
         (_workers + 1) _workers h.workers.items) }
@@ -59,7 +59,7 @@ fn all_threads<R: Threads + Wait + Sync>(
         queues,
         callers,
         |hosts: Vec<HostPasses>| -> Returned<Vec<HostPasses>>
-            requires { All (IsHostOf system.now play.now.config) hosts.items × IsSlotArea play.now.slots }
+            requires { All (IsHostOf system.now play.now.config) hosts.items × IsRange play.now.slots }
             ensures back { AllZip (HostPassesContinue system.entry.now) hosts.items result.0.items }
             ensures played { OnOk result.1
                 (AllZip (HasPlayed system.entry.now play.entry.now) hosts.items result.0.items) }

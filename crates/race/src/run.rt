@@ -77,8 +77,9 @@ fn finish<W: Write>(
 ///
 /// # Errors
 ///
-/// `NoMemory` where a growth was refused, and `Output`, after a beginning of the text. `BadAt` would name the first
-/// place at which the history isn't legal; it never comes, since what the controller gives is.
+/// `NoMemory` where a growth was refused, and `Output`, after a beginning of the text; `Forgotten`, after nothing was
+/// written, where the controller has forgotten a part. `BadAt` would name the first place at which the history isn't
+/// legal; it never comes, since what the controller gives is.
 pub fn tell_race<W: Write>(
     alloc: Global,
     race: &Race,
@@ -96,12 +97,15 @@ pub fn tell_race<W: Write>(
         (W.contents writer.new)) }
     ensures late { IfErr result IsLate }
 {
+    let Some(entries) = core.history().whole() else {
+        return Err(RaceFault::Forgotten);
+    };
     let config = core.config();
     let slots = Range {
         slba: 0,
         blocks: race.slots,
     };
-    finish(alloc, &config, &slots, core.history().as_slice(), writer)
+    finish(alloc, &config, &slots, entries, writer)
 }
 
 /// Lets hosts race for slots on threads, and writes the configuration line and the controller's whole history; then
@@ -112,8 +116,9 @@ pub fn tell_race<W: Write>(
 /// # Errors
 ///
 /// `NoMemory` where a growth was refused, a thread couldn't be started or a host couldn't begin a round; `Output` after
-/// a beginning of the text. `BadAt` would name the first place at which the history isn't legal; it never comes, since
-/// what the controller gives is.
+/// a beginning of the text. `Forgotten` would say that a part of the history was forgotten, and `BadAt` would name the
+/// first place at which it isn't legal; they never come, since nobody here forgets, and what the controller gives is
+/// legal.
 pub fn run_race<R: Threads + Wait + Sync, W: Write>(
     rt: &R,
     alloc: Global,

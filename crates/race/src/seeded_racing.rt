@@ -3,7 +3,6 @@
 ghost use Rattle.std.specs.Prelude.{◌≡◌, All, IfErr, IfOk, OnOk, true, vec_len};
 ghost use Rattle.random_numbers.specs.Drawn.{moved_on};
 ghost use Rattle.shared_system.specs.Callers.{AreCallersOf};
-ghost use Rattle.race_hosts.specs.Hosts.{IsSlotArea};
 ghost use Rattle.race_numbers.specs.Races.{race_config};
 ghost use Rattle.race.specs.Ended.{HaveCallersEnded};
 ghost use Rattle.race.specs.Faults.{IsEarly};
@@ -12,6 +11,7 @@ ghost use Rattle.race.specs.Slots.{slots_of};
 ghost use Rattle.hosts.specs.Stages.{IsWorkStage};
 ghost use Rattle.race.specs.Drawing.{IsActorIn};
 ghost use Rattle.race.specs.Racers.{AreAllRacers, AreOver};
+ghost use Rattle.nvme_model.specs.Array.{IsRange};
 
 use crate::closing::{closed, room_for};
 use crate::drawing::{Actor, next_actor};
@@ -163,7 +163,7 @@ pub fn all_racers<'a>(
 ) -> Result<Racers<'a>, NoMemory>
     requires callers { AreCallersOf scene.now.system.now scene.now.play.now.config scene.now.race.now.workers callers }
     requires hosts { scene.now.play.now.config.cqs ≡ scene.now.race.now.hosts }
-    requires slots { IsSlotArea scene.now.play.now.slots }
+    requires slots { IsRange scene.now.play.now.slots }
     ensures { IfOk result (AreAllRacers scene.now) }
 {
     let Callers {
@@ -215,7 +215,7 @@ fn all_turns<R: Wait>(
 ) -> Result<Callers, NoMemory>
     requires callers { AreCallersOf scene.now.system.now scene.now.play.now.config scene.now.race.now.workers callers }
     requires config { scene.now.play.now.config ≡ race_config scene.now.race.now }
-    requires slots { IsSlotArea scene.now.play.now.slots }
+    requires slots { IsRange scene.now.play.now.slots }
     ensures { IfOk result (HaveCallersEnded scene.now.system.now.engine scene.now.play.now scene.now.race.now.workers) }
 {
     let mut random = RandomNumbers::from_seed(seed);

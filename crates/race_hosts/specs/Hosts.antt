@@ -1,7 +1,6 @@
 -- What contracts say of a host.
-use Rattle.std.specs.Prelude.{Bool, Contains, List, length, nat_le, true, ℕ, ◌&&◌, ◌+◌, ◌-◌, ◌<◌, ◌==◌, ◌≡◌, ◌≤◌}
+use Rattle.std.specs.Prelude.{Bool, Contains, List, length, nat_le, true, ℕ, ◌&&◌, ◌-◌, ◌<◌, ◌==◌, ◌≡◌, ◌≤◌}
 use Rattle.nvme_model.specs.Config.{completion_queue}
-use Rattle.nvme_model.specs.declared.array.Range.{Range}
 use Rattle.nvme_model.specs.declared.config.ConfigNumbers.{ConfigNumbers}
 use Rattle.work_queue.specs.Engines as engine
 use Rattle.shared_system.specs.Callers.{IsPlaceAt}
@@ -32,10 +31,6 @@ port_queue h = queue_of (port_of h.driver)
 -- how many claims of the first slot a host's driver published: each of its rounds begins with one, and has no other
 abbrev pub rounds_begun : Host → ℕ
 rounds_begun h = claims_made h.driver 0
-
--- some blocks, which lie among the first 65,536
-abbrev pub IsSlotArea : Range → Type 0
-IsSlotArea r = (1 ≤ r.blocks) × (r.slba + r.blocks ≤ 65536)
 
 module _ {G : Type 0} where
   -- Its driver is of the system's controller and has these slots, whose discipline it has kept, and its place is one of

@@ -5,8 +5,8 @@ ghost use Rattle.std.specs.Prelude.{[], ◌+◌, ◌++◌, ◌≡◌, ◌≤◌,
 ghost use Rattle.std.specs.Vec.{vec_capacity};
 ghost use Rattle.shared_system.specs.Callers.{IsHostOf};
 ghost use Rattle.hosts.specs.Returning.{AreParted, GaveBack};
-ghost use Rattle.race_hosts.specs.Hosts.{IsSlotArea};
 ghost use Rattle.race_hosts.specs.Playing.{HasPlayed, HostPassesContinue, IsReturned, Promises};
+ghost use Rattle.nvme_model.specs.Array.{IsRange};
 
 use crate::owned::host_of;
 use crate::pausing::stops;
@@ -57,7 +57,7 @@ fn plays<R: Wait, G>(
     caller: HostPasses,
 ) -> Returned<HostPasses>
     requires caller { IsHostOf system.now play.now.config caller }
-    requires slots { IsSlotArea play.now.slots }
+    requires slots { IsRange play.now.slots }
     ensures back { HostPassesContinue system.now caller result.0 }
     ensures played { OnOk result.1 (HasPlayed system.now play.now caller result.0) }
 {
@@ -82,7 +82,7 @@ fn start_host<'s, E, R: Threads + Wait + Sync, G: Sync>(
     caller: HostPasses,
 ) -> Result<PromisedHandle<Returned<HostPasses>, Played<G>>, HostPasses>
     requires caller { IsHostOf system.now play.now.config caller }
-    requires slots { IsSlotArea play.now.slots }
+    requires slots { IsRange play.now.slots }
     ensures starts { IfOk result (λ h. Promises system.now play.now caller h.promise) }
     ensures back { IfErr result (HostPassesContinue system.now caller) }
 {
@@ -94,7 +94,7 @@ fn start_host<'s, E, R: Threads + Wait + Sync, G: Sync>(
     let started = scope.spawn_with(
         promise,
         move || -> Returned<HostPasses>
-            requires { IsHostOf system.now play.now.config caller × IsSlotArea play.now.slots }
+            requires { IsHostOf system.now play.now.config caller × IsRange play.now.slots }
             ensures { IsReturned system.entry.now play.entry.now caller result }
         { plays(rt, alloc, system, play, caller) },
     );
@@ -121,7 +121,7 @@ fn start_hosts<'s, E, R: Threads + Wait + Sync, G: Sync>(
     started: &mut Handles<HostPasses, Played<G>>,
 ) -> Result<(), NoMemory>
     requires callers { All (IsHostOf system.now play.now.config) callers.old.items }
-    requires slots { IsSlotArea play.now.slots }
+    requires slots { IsRange play.now.slots }
     requires none { started.old.items ≡ [] }
     requires room { vec_len callers.old ≤ vec_capacity started.old }
     ensures parted { AreParted (HostPassesContinue system.now)
@@ -169,7 +169,7 @@ fn in_scope<'s, E, R: Threads + Wait + Sync, G: Sync>(
     mut callers: Vec<HostPasses>,
     mut started: Handles<HostPasses, Played<G>>,
 ) -> Returned<Vec<HostPasses>>
-    requires own { All (IsHostOf system.now play.now.config) callers.items × IsSlotArea play.now.slots }
+    requires own { All (IsHostOf system.now play.now.config) callers.items × IsRange play.now.slots }
     requires room { (started.items ≡ []) × (vec_len callers ≤ vec_capacity started) }
     ensures back { AllZip (HostPassesContinue system.now) callers.items result.0.items }
     ensures played { OnOk result.1 (AllZip (HasPlayed system.now play.now) callers.items result.0.items) }
@@ -208,7 +208,7 @@ pub fn run_hosts<R: Threads + Wait + Sync, G: Sync>(
     callers: Vec<HostPasses>,
 ) -> Returned<Vec<HostPasses>>
     requires callers { All (IsHostOf system.now play.now.config) callers.items }
-    requires slots { IsSlotArea play.now.slots }
+    requires slots { IsRange play.now.slots }
     ensures back { AllZip (HostPassesContinue system.now) callers.items result.0.items }
     ensures played { OnOk result.1 (AllZip (HasPlayed system.now play.now) callers.items result.0.items) }
 {
@@ -219,7 +219,7 @@ pub fn run_hosts<R: Threads + Wait + Sync, G: Sync>(
         thread::scope_env(),
         rt,
         |scope| -> Returned<Vec<HostPasses>>
-            requires own { All (IsHostOf system.now play.now.config) callers.items × IsSlotArea play.now.slots }
+            requires own { All (IsHostOf system.now play.now.config) callers.items × IsRange play.now.slots }
             requires room { (started.items ≡ []) × (vec_len callers ≤ vec_capacity started) }
             ensures back { AllZip (HostPassesContinue system.entry.now) callers.items result.0.items }
             ensures played { OnOk result.1

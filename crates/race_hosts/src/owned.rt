@@ -8,8 +8,9 @@ ghost use Rattle.driver_cas.specs.Drivers as driver;
 ghost use Rattle.driver_cas.specs.Ports.{pass_of};
 ghost use Rattle.slot_alloc.specs.Areas.{area};
 ghost use Rattle.many_host_laws.specs.Hosts.{IsHost};
-ghost use Rattle.race_hosts.specs.Hosts.{HasEach, HasEachBelow, IsHosting, IsSlotArea, port_queue, rounds_begun, uses};
+ghost use Rattle.race_hosts.specs.Hosts.{HasEach, HasEachBelow, IsHosting, port_queue, rounds_begun, uses};
 ghost use Rattle.race_hosts.specs.Playing.{HostPassesContinue};
+ghost use Rattle.nvme_model.specs.Array.{IsRange};
 
 use driver_cas::{Driver, SharedPort};
 use history::Config;
@@ -110,7 +111,7 @@ pub fn host_of<'a, G>(
     slots: Range,
 ) -> Result<Host<'a>, HostPasses>
     requires caller { IsHostOf system.now config.now caller }
-    requires slots { IsSlotArea slots }
+    requires slots { IsRange slots }
     ensures hosting { IfOk result (IsHosting system.entry.now) }
     ensures none { IfOk result (λ h. rounds_begun h ≡ 0) }
     ensures queue { IfOk result (λ h. (h.queue ≡ caller.queue) × (port_queue h ≡ caller.queue)) }

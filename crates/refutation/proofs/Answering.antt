@@ -3,7 +3,7 @@ use Rattle.nvme_model.specs.Tickets
 use Rattle.std.proofs.Common.{eq-eqb, length, ◌≡◌, ℕ, zero, suc, true, false, List, ◌∷◌, Option}
 use Rattle.std.proofs.Common.{Some, slice_get, not, sym, ap, ap₂, ◌∙◌, subst, subst₂, inl, inr, arith}
 use Rattle.std.proofs.lemmas.Bool.{and_from, or_left, or_right}
-use Rattle.nvme_model.specs.Completions.{reaped_count}
+use Rattle.nvme_model.specs.Completions.{reaped_count, reaped_payload}
 use Rattle.nvme_model.specs.EntryBytes.{cqe_fields, sqe_fields}
 use Rattle.nvme_model.specs.History.{Past}
 use Rattle.nvme_model.specs.Legal.{IsLegal}
@@ -24,7 +24,7 @@ use Rattle.host_laws.proofs.Calls.{First, PostOf, Second, Seen, seen, which}
 use Rattle.host_laws.proofs.Elements.{same_some}
 use Rattle.host_laws.proofs.PostedAnswers.{PostedAt, answer_at}
 use Rattle.host_laws.proofs.Statuses.{post_is}
-use Rattle.trace.specs.Observed.{observed, payload_by}
+use Rattle.trace.specs.Observed.{observed}
 use Rattle.trace.specs.declared.seen.ReapedLine.{ReapedLine}
 use Rattle.trace.specs.declared.seen.Seen as seen_lines
 use Rattle.refutation.specs.Lines.{published_in}
@@ -188,7 +188,7 @@ data_right c r trace d l =
     subst (λ (t : List seen_lines.Seen). tidy_on (cqe_fields r.cqe).sqid t ≡ true) (sym l.seen) d in
     let legal = (follows c l.before (Entry.Reap line) l.legal).before in
     let a = answers_one c l.before line l.legal tidy in
-    let bytes : x.post.payload ≡ r.payload = sym (ap payload_by x.posted) ∙ l.payload in
+    let bytes : x.post.payload ≡ r.payload = sym (ap reaped_payload x.posted) ∙ l.payload in
     let owed : length r.payload ≡ data_owed x.entry (cqe_status r.cqe) =
     ap (λ (b : List ℕ). length b) (sym bytes)
     ∙ (data_length_is c l.before x.queue x.number x.post x.entry (posted_of c l.before line x legal) x.published

@@ -5,7 +5,7 @@ use Rattle.std.proofs.Common.{refl, sym, ap, ap₂, ◌∙◌, subst, Option, So
 use Rattle.std.proofs.Common.{eqb-true}
 use Rattle.std.proofs.Common.{ltb-true, nat_lt, slice_get, is_none}
 use Rattle.std.proofs.lemmas.Bool.{and_parts, and_from, cases_Bool, cond-true, cond-false, or_right}
-use Rattle.nvme_model.specs.Completions.{reaped_count}
+use Rattle.nvme_model.specs.Completions.{reaped_count, reaped_payload}
 use Rattle.nvme_model.specs.EntryBytes.{cqe_fields}
 use Rattle.nvme_model.specs.History.{Past}
 use Rattle.nvme_model.specs.Legal.{IsLegal}
@@ -21,7 +21,7 @@ use Rattle.host_laws.specs.Book.{Book, cid_of, with_entry}
 use Rattle.host_laws.specs.Calls.{IsEntryWaiting, ReapAnswers, reaped_post}
 use Rattle.host_laws.proofs.Elements.{get_cases, same_some}
 use Rattle.host_laws.proofs.Reaps.{none_if, reap_answers, reaped_later}
-use Rattle.trace.specs.Observed.{next_payload, observed, payload_by}
+use Rattle.trace.specs.Observed.{next_payload, observed}
 use Rattle.trace.specs.declared.seen.ReapedLine.{ReapedLine}
 use Rattle.trace.specs.declared.seen.Seen.{Seen}
 use Rattle.refutation.specs.Lines.{answer_in, answered, has_free_cids, is_number, is_tidy, published_in, reaped_in}
@@ -415,7 +415,7 @@ answers_reaped c past r h q j d ih = go x test (eqb x.queue q && eqb x.number j)
         cond-true _ (Some line) (answer_in (observed c past) q j) (test ∙ z) in
         subst (λ (o : Option PostLine). AnswersAs (answer_in (observed c (Entry.Reap r ∷ past)) q j) o) (sym post)
         (subst (λ (o : Option ReapedLine). AnswersAs o (Some x.post)) (sym mine)
-        (x.cqe, sym (ap payload_by x.posted)))
+        (x.cqe, sym (ap reaped_payload x.posted)))
     go x test false z =
         let other : q ≡ x.queue → j ≡ x.number → ⊥ = λ e f.
         let y : false ≡ true = sym z ∙ and_from _ _ (eq-eqb x.queue q (sym e)) (eq-eqb x.number j (sym f)) in cc in

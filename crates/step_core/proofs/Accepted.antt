@@ -25,18 +25,20 @@ accepted inside old step o same found none = ap (λ (x : ControllerState). refus
     ∙ none
 
 -- what an accepted step does, by the entry that it adds
-pub does_accepted : (inside old : ControllerState) (step : Step) (a : Answer) (e : Entry) (p : Past) (n : ℕ)
+pub does_accepted : (inside old : ControllerState) (step : Step) (a : Answer) (e : Entry) (p : Past) (n f : ℕ)
     (room : Room)
     → inside ≡ old
     → refusal inside.config inside.past step ≡ None
     → e ≡ next_entry inside.config inside.past step
     → a ≡ answer_of inside.config inside.past (next_entry inside.config inside.past step)
-    → p ≡ e ∷ inside.past → n ≡ promised_after step inside.promised → TakesRoom step inside.room room
-    → Serves old step (Ok a) (record { config = inside.config; past = p; promised = n; room = room })
-does_accepted inside old step a e p n room same none entry answer past promised takes =
+    → p ≡ e ∷ inside.past → f ≡ inside.forgotten → n ≡ promised_after step inside.promised
+    → TakesRoom step inside.room room
+    → Serves old step (Ok a) (record { config = inside.config; past = p; forgotten = f; promised = n; room = room })
+does_accepted inside old step a e p n f room same none entry answer past lost promised takes =
     subst (λ (x : ControllerState). Serves x step (Ok a) (record {
       config = inside.config;
       past = p;
+      forgotten = f;
       promised = n;
       room = room;
     }))
@@ -45,6 +47,7 @@ does_accepted inside old step a e p n room same none entry answer past promised 
       (λ i. record {
         config = inside.config;
         past = (past ∙ ap (λ (y : Entry). y ∷ inside.past) entry) i;
+        forgotten = lost i;
         promised = promised i;
         room = room;
       }),

@@ -175,19 +175,20 @@ module _ (c : ConfigNumbers) (past : Past) (fields : CoreFields) (k : IsCoreOf c
           ∙ ap (answer_of c past) (entry_is c past t u.0 u.1 u.2)
 
       -- so the step is done
-      pub block_does : (x : ControllerState) (p p' : ℕ) (w w' : Room) (h past' : Past)
-          → record { config = c; past = past; promised = p; room = w } ≡ x → h ≡ past
+      pub block_does : (x : ControllerState) (p p' f f' : ℕ) (w w' : Room) (h past' : Past)
+          → record { config = c; past = past; forgotten = f; promised = p; room = w } ≡ x → f' ≡ f → h ≡ past
           → past' ≡ Entry.Block (record { ticket = t; unit = n'; lba = d.lba; found = d.found; effect = d.effect }) ∷ h
           → p' ≡ p - 1 → TakesRoom (Step.Block t) w w'
           → Serves x (Step.Block t) (Ok (Answer.Blocked d))
-          (record { config = c; past = past'; promised = p'; room = w' })
-      block_does x p p' w w' h past' view same_past is_past is_left takes =
+          (record { config = c; past = past'; forgotten = f'; promised = p'; room = w' })
+      block_does x p p' f f' w w' h past' view lost same_past is_past is_left takes =
           subst (λ (y : ControllerState). Serves y (Step.Block t) (Ok (Answer.Blocked d))
-          (record { config = c; past = past'; promised = p'; room = w' })) view (
+          (record { config = c; past = past'; forgotten = f'; promised = p'; room = w' })) view (
             (none, refl, answer_is),
             (λ z. record {
               config = c;
               past = (is_past ∙ ap₂ (λ (e : Entry) (w : Past). e ∷ w) next_is same_past) z;
+              forgotten = lost z;
               promised = is_left z;
               room = w';
             }),

@@ -429,15 +429,16 @@ module _ (c : ConfigNumbers) (past : Past) (fields : CoreFields) (k : IsCoreOf c
       subst (λ (y : Past). IsCoreOf c y all) (sym h) kept
 
   -- the step is done, and the answer is the new ticket and its work
-  pub fetch_done : (y : ControllerState) (p : ℕ) (room left : Room) (w : Verdict) (now then : Past) (work : TicketWork)
-      (u : AtomicParameters) → record { config = c; past = past; promised = p; room = room } ≡ y
+  pub fetch_done : (y : ControllerState) (p f f' : ℕ) (room left : Room) (w : Verdict) (now then : Past)
+      (work : TicketWork) (u : AtomicParameters)
+      → record { config = c; past = past; forgotten = f; promised = p; room = room } ≡ y → f' ≡ f
       → w ≡ verdict_by x.judged → now ≡ past
       → then ≡ Entry.Fetch (record { queue = t; ticket = n + 1; verdict = w }) ∷ now → u ≡ c.atomic
       → work ≡ record { ticket = n + 1; atomic = u; judged = x.judged }
       → TakesRoom (Step.Fetch t) room left
       → Serves y (Step.Fetch t) (Ok (Answer.Fetched work))
-      (record { config = c; past = then; promised = p; room = left })
-  fetch_done y p room left w now then work u view says same pushed units made takes =
+      (record { config = c; past = then; forgotten = f'; promised = p; room = left })
+  fetch_done y p f f' room left w now then work u view lost says same pushed units made takes =
       let work_is : work ≡ work_of c (Tickets.tickets past + 1) (fetched_ticket past t (next_verdict c past t)) =
       made ∙ (λ i. record {
         ticket = k.count i + 1;
@@ -449,8 +450,8 @@ module _ (c : ConfigNumbers) (past : Past) (fields : CoreFields) (k : IsCoreOf c
       pushed ∙ (λ i. Entry.Fetch (record { queue = t; ticket = k.count i + 1; verdict = says i }) ∷ same i)
       ∙ ap (λ (e : Entry). e ∷ past) entry_is in
       subst (λ (z : ControllerState). Serves z (Step.Fetch t) (Ok (Answer.Fetched work))
-      (record { config = c; past = then; promised = p; room = left })) view (
+      (record { config = c; past = then; forgotten = f'; promised = p; room = left })) view (
         (a.0, refl, ap (λ (v : TicketWork). Answer.Fetched v) work_is),
-        (λ i. record { config = c; past = past_is i; promised = p; room = left }),
+        (λ i. record { config = c; past = past_is i; forgotten = lost i; promised = p; room = left }),
         takes,
       )

@@ -34,8 +34,8 @@ use Rattle.controller_interface.specs.State.{Room, ControllerState}
 use Rattle.step_core.proofs.Bounds.{left_short}
 
 -- what is kept is so of the value that contracts see
-pub seen : (c : ConfigNumbers) (past : Past) (p : ℕ) {w : Room} (x : ControllerState) (fields : CoreFields)
-    → record { config = c; past = past; promised = p; room = w } ≡ x
+pub seen : (c : ConfigNumbers) (past : Past) (p : ℕ) {f : ℕ} {w : Room} (x : ControllerState)
+    (fields : CoreFields) → record { config = c; past = past; forgotten = f; promised = p; room = w } ≡ x
     → IsCoreOf c past fields → IsCoreOf x.config x.past fields
 seen c past p x fields e k = subst (λ (y : ControllerState). IsCoreOf y.config y.past fields) e k
 

@@ -129,8 +129,9 @@ ticket_of (Some t) g e h = ap (λ (y : InFlight). Some y.ticket) (some_inj h)
     some_inj : {x y : InFlight} → Some x ≡ Some y → x ≡ y
     some_inj h = cc
 
-module _ (x : ControllerState) (j : JobTable) (c : ConfigNumbers) (past : Past) (m : ℕ) {w : Room}
-    (view : record { config = c; past = past; promised = m; room = w } ≡ x) (table : j ≡ job_table c past) where
+module _ (x : ControllerState) (j : JobTable) (c : ConfigNumbers) (past : Past) (m : ℕ) {f : ℕ} {w : Room}
+    (view : record { config = c; past = past; forgotten = f; promised = m; room = w } ≡ x)
+    (table : j ≡ job_table c past) where
   -- the ticket at this place
   pub nth_ticket : (i : ℕ) (e : InFlight) → slice_get j.jobs i ≡ Some e → slice_get (flying x.past) i ≡ Some e.ticket
   nth_ticket i e h =

@@ -158,8 +158,8 @@ fields_by x h h' q cid p p' s e head phase = e
 -- ---- what `post_due` finds
 
 module _ (c : ConfigNumbers) (past : Past) (fields : CoreFields) (k : IsCoreOf c past fields)
-    (x : ControllerState) (m : ℕ) {w : Room} (view : record { config = c; past = past; promised = m; room = w }
-    ≡ x) (t : ℕ)
+    (x : ControllerState) (m : ℕ) {f : ℕ} {w : Room}
+    (view : record { config = c; past = past; forgotten = f; promised = m; room = w } ≡ x) (t : ℕ)
     (job : Keeping) (is : IsJob x.config x.past t job) where
   abbrev s : List SubmissionRing
   s = fields.submission

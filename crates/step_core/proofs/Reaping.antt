@@ -12,7 +12,7 @@ use Rattle.nvme_model.specs.declared.entry.PostLine.{PostLine}
 use Rattle.nvme_model.specs.declared.entry.ReapLine.{ReapLine}
 use Rattle.nvme_model.specs.declared.refusal.Why.{Why}
 use Rattle.nvme_model.specs.declared.step.Step.{Step}
-use Rattle.nvme_model.specs.Completions.{posted_completions, reaped_count}
+use Rattle.nvme_model.specs.Completions.{posted_completions, reaped_count, reaped_payload}
 use Rattle.nvme_model.specs.History.{Past}
 use Rattle.nvme_model.specs.Refusals.{conditions, refusal}
 use Rattle.nvme_model.specs.Steps.{next_entry, reap_entry}
@@ -28,7 +28,7 @@ use Rattle.job_table.specs.Jobs.{JobTable}
 use Rattle.rings.specs.Queues.{completion_of, completion_ring, submission_ring}
 use Rattle.step_core.specs.Kept.{CoreFields, IsCoreOf}
 use Rattle.step_core.specs.Found.{IsCqRing}
-use Rattle.controller_interface.specs.State.{answer_of, reaped_payload}
+use Rattle.controller_interface.specs.State.{answer_of}
 use Rattle.controller_interface.specs.declared.answer.Answer.{Answer}
 use Rattle.step_core.proofs.Lookups.{cq_read}
 use Rattle.step_core.proofs.Moves.{stepped}

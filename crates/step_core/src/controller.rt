@@ -1,7 +1,7 @@
 //! The controller: its fields, and how a step reads and changes them.
 
 ghost use Rattle.std.specs.Prelude.{◌≡◌, ◌≤◌, ◌<◌, [], IfOk, IfSome, MatchOption, MatchResult, OnErr, OnOk};
-ghost use Rattle.std.specs.Prelude.{false, max, true};
+ghost use Rattle.std.specs.Prelude.{false, length, max, min, true};
 ghost use Rattle.nvme_model.specs.Kept.{ControllerInvariant};
 ghost use Rattle.nvme_model.specs.Legal.{IsLegal};
 ghost use Rattle.nvme_model.specs.Medium.{medium};
@@ -62,6 +62,7 @@ impl Model for Core {
     ghost view = { λ c. record {
       config = c.config;
       past = c.history.past;
+      forgotten = c.history.forgotten;
       promised = c.promised;
       room = record { entries = c.history.room; ranges = c.ranges.room };
     } };
@@ -87,7 +88,7 @@ impl Core {
     /// `NoMemory` where a growth is refused.
     pub fn new(alloc: Global, config: Config) -> Result<Core, NoMemory>
         ensures ok { IfOk result (λ core.
-            core ≡ record { config = config; past = []; promised = 0; room = core.room }) }
+            core ≡ record { config = config; past = []; forgotten = 0; promised = 0; room = core.room }) }
         ensures kept { IfOk result (λ core. ControllerInvariant core.config core.past) }
     {
         let numbers = config.numbers();
@@ -151,13 +152,33 @@ impl Core {
         Ok(())
     }
 
-    /// The entries of all accepted steps, the oldest first.
+    /// Forgets the entries of the history before this place, from 0, the oldest first: their memory is free for others.
+    /// Behind the end all are forgotten; what was forgotten before stays so. The places of the others, and what the
+    /// next steps do, are as before.
+    ///
+    /// It costs what it drops and what it leaves, and nothing for what was forgotten before.
+    pub fn forget(&mut self, place: usize)
+        ensures state { self.new ≡ record self.old {
+          forgotten = max self.old.forgotten (min place (length self.old.past));
+          room = self.new.room;
+        } }
+        ensures room { KeepsRoom self.old.room self.new.room }
+        ensures kept { ControllerInvariant self.new.config self.new.past }
+    {
+        self.history.forget(place);
+    }
+
+    /// The entries of all accepted steps, the oldest first, but for those that were forgotten.
     pub fn history(&self) -> &History
         ensures past { result.now.past ≡ self.now.past }
+        ensures forgotten { result.now.forgotten ≡ self.now.forgotten }
+        ensures few { self.now.forgotten ≤ length self.now.past }
         ensures legal { IsLegal self.now.config self.now.past }
         ensures kept { ControllerInvariant self.now.config self.now.past }
         ensures promise { HasPromised self.now }
     {
+        // A read tells the proof that no more were forgotten than there are.
+        let _ = self.history.forgotten();
         &self.history
     }
 

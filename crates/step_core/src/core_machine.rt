@@ -30,4 +30,8 @@ impl Machine for Core {
     fn step(&mut self, step: Step) -> Result<Answer, Refused> {
         Core::step(self, step)
     }
+
+    fn forget(&mut self, place: usize) {
+        Core::forget(self, place);
+    }
 }

@@ -57,6 +57,7 @@ fn a_failed_write_ends_the_race(rt: HostRuntime) -> Result<(), Fail> {
 fn faults_have_their_words_and_statuses(rt: HostRuntime) -> Result<(), Fail> {
     let rows = [
         (RaceFault::BadAt(7), "bad at 7", 1),
+        (RaceFault::Forgotten, "history forgotten", 1),
         (RaceFault::Output, "output failed", 3),
         (RaceFault::NoMemory, "no memory", 4),
     ];

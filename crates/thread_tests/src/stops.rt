@@ -2,7 +2,7 @@
 
 ghost use Rattle.std.specs.Prelude.{◌≡◌, All, IfOk};
 ghost use Rattle.shared_system.specs.Callers.{IsHostOf, IsCallerOf, IsWorkerOf};
-ghost use Rattle.race_hosts.specs.Hosts.{IsSlotArea};
+ghost use Rattle.nvme_model.specs.Array.{IsRange};
 
 use history::Config;
 use history_check::check;
@@ -57,7 +57,7 @@ fn hosts_to_the_end<R: Threads + Wait + Sync>(
     callers: Vec<HostPasses>,
 ) -> Result<(), NoMemory>
     requires callers { All (IsHostOf system.now play.now.config) callers.items }
-    requires slots { IsSlotArea play.now.slots }
+    requires slots { IsRange play.now.slots }
 {
     let (_, ended) = run_hosts(rt, alloc, system, play, callers);
     system.stop.set();
@@ -73,12 +73,12 @@ fn play_hosts<R: Threads + Wait + Sync>(
     callers: Vec<HostPasses>,
 ) -> Result<(), NoMemory>
     requires callers { All (IsHostOf system.now play.now.config) callers.items }
-    requires slots { IsSlotArea play.now.slots }
+    requires slots { IsRange play.now.slots }
 {
     let (ended, ()) = join(
         rt,
         move || -> Result<(), NoMemory>
-            requires { All (IsHostOf system.now play.now.config) callers.items × IsSlotArea play.now.slots }
+            requires { All (IsHostOf system.now play.now.config) callers.items × IsRange play.now.slots }
         { hosts_to_the_end(rt, alloc, system, play, callers) },
         || stops_late(system),
     );
@@ -95,7 +95,7 @@ fn all<R: Threads + Wait + Sync>(
 ) -> Result<(CallerPasses, bool), NoMemory>
     requires crew { IsCallerOf system.now callers.fetcher × All (IsWorkerOf system.now) callers.workers.items }
     requires hosts { All (IsHostOf system.now play.now.config) callers.hosts.items }
-    requires slots { IsSlotArea play.now.slots }
+    requires slots { IsRange play.now.slots }
     ensures { IfOk result (λ r. IsCallerOf system.now r.0) }
 {
     let Crew {
@@ -110,7 +110,7 @@ fn all<R: Threads + Wait + Sync>(
         2,
         callers,
         |hosts: Vec<HostPasses>| -> Result<(), NoMemory>
-            requires { All (IsHostOf system.now play.now.config) hosts.items × IsSlotArea play.now.slots }
+            requires { All (IsHostOf system.now play.now.config) hosts.items × IsRange play.now.slots }
         { play_hosts(rt, alloc, system, play, hosts) },
     );
     ends?;

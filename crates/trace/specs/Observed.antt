@@ -1,23 +1,17 @@
 -- What hosts see of a history: what was published, and what was reaped with the data beside it.
 use Rattle.std.specs.Prelude.{Bool, List, None, Option, Some, [], false, slice_get, true, ℕ, ◌∷◌}
-use Rattle.nvme_model.specs.Completions.{posted_completions, reaped_count}
+use Rattle.nvme_model.specs.Completions.{posted_completions, reaped_count, reaped_payload}
 use Rattle.nvme_model.specs.History.{Past}
 use Rattle.nvme_model.specs.Legal.{IsLegal}
 use Rattle.nvme_model.specs.declared.config.ConfigNumbers.{ConfigNumbers}
 use Rattle.nvme_model.specs.declared.entry.Entry.{Entry}
-use Rattle.nvme_model.specs.declared.entry.PostLine.{PostLine}
 use Rattle.trace.specs.Aside.{ReadsTrace, aside_pair}
 use Rattle.trace.specs.declared.options.TraceOptions.{TraceOptions}
 use Rattle.trace.specs.declared.seen.Seen.{Seen}
 
--- the data beside a completion that was posted
-abbrev pub payload_by : Option PostLine → List ℕ
-payload_by None = []
-payload_by (Some p) = p.payload
-
 -- the data of the completion of queue q that is reaped next: its number is how many were reaped
 abbrev pub next_payload : ConfigNumbers → Past → ℕ → List ℕ
-next_payload c past q = payload_by (slice_get (posted_completions c past q) (reaped_count past q))
+next_payload c past q = reaped_payload (slice_get (posted_completions c past q) (reaped_count past q))
 
 -- hosts see an entry of this kind
 abbrev pub is_seen : Entry → Bool

@@ -1,5 +1,6 @@
 pub mod Marks
 mod Batches
+mod LinesLooked
 mod PieceGiven
 mod Ready
 mod Calls
@@ -12,4 +13,6 @@ pub mod Places
 pub mod Polled
 pub mod Releasing
 pub mod SlotSent
+mod SeenTaken
+mod SlotsFollowed
 pub mod Staying

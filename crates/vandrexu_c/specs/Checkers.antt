@@ -15,7 +15,7 @@ abbrev pub IsNewChecker : ConfigNumbers → Option CheckerRun → Type 0
 IsNewChecker c o = Keeps o (Stands c []) × (config_fault c ≡ None)
 
 -- why no checker was made: the handle owns one, this is the first fault of the configuration, or memory was refused
-abbrev pub MayRefuseChecker : ConfigNumbers → Option CheckerRun → ℕ → Type 0
+abbrev pub MayRefuseChecker : {A : Type 0} → ConfigNumbers → Option A → ℕ → Type 0
 MayRefuseChecker c o number =
     ((number ≡ 102) × (mark o ≡ 1))
     ⊎ ((fault : ConfigFault) × (config_fault c ≡ Some fault) × (number ≡ config_fault_number fault))

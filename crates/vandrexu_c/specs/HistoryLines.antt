@@ -1,12 +1,6 @@
--- What a call that asks for lines of a controller's history answers.
-use Rattle.std.specs.Prelude.{List, [], drop, length, reverse, ℕ, ◌+◌, ◌++◌, ◌<◌, ◌≡◌, ◌≢◌, ◌≤◌}
-use Rattle.controller_interface.specs.State.{ControllerState}
+-- What a call that asks for lines of a history answers.
+use Rattle.std.specs.Prelude.{List, [], drop, length, ℕ, ◌+◌, ◌++◌, ◌<◌, ◌≡◌, ◌≢◌, ◌≤◌}
 use Rattle.c_handles.specs.Pieces.{text_of_first}
-use Rattle.history.specs.Texts.{history_lines}
-
--- the lines of a controller's history from this place on: place 0 is the configuration's, place k the k-th entry's
-abbrev pub lines_from : ControllerState → ℕ → List (List ℕ)
-lines_from s place = drop place (history_lines s.config (reverse s.past))
 
 -- The first so many of these lines, which begin at `from`, are copied, and the rest of the room is as before: at least
 -- one of them where there is one, and as many as fit.

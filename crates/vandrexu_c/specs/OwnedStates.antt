@@ -1,5 +1,5 @@
 -- What a handle of a controller owns.
-use Rattle.std.specs.Prelude.{List, None, Option, Some, [], max, ℕ, ◌≡◌, ◌⊎◌}
+use Rattle.std.specs.Prelude.{List, None, Option, Some, [], length, max, min, ℕ, ◌-◌, ◌≡◌, ◌⊎◌}
 use Rattle.c_handles.specs.Owned.{Keeps, mark}
 use Rattle.nvme_model.specs.Config.{config_fault, config_fault_number}
 use Rattle.nvme_model.specs.declared.config.ConfigFault.{ConfigFault}
@@ -13,7 +13,8 @@ pub record OwnedState : Type 0 where
 
 -- a handle owns a controller of this configuration that has no history, which the configuration's faults don't refuse
 abbrev pub IsNewController : ConfigNumbers → Option OwnedState → Type 0
-IsNewController c o = Keeps o (λ m. (m.core ≡ record { config = c; past = []; promised = 0; room = m.core.room })
+IsNewController c o = Keeps o (λ m.
+    (m.core ≡ record { config = c; past = []; forgotten = 0; promised = 0; room = m.core.room })
     × (m.payload ≡ []) × (config_fault c ≡ None))
 
 -- why no controller was made: the handle owns one, this is the first fault of the configuration, or memory was refused
@@ -29,3 +30,12 @@ Reserves old more number new =
     (new.payload ≡ old.payload) × KeepsRoom old.core.room new.core.room
     × (((number ≡ 0) × (new.core ≡ record old.core { promised = max old.core.promised more; room = new.core.room }))
     ⊎ ((number ≡ 11) × (new.core ≡ record old.core { room = new.core.room }) × LacksRoom old.core.room more))
+
+-- the entries of the places before this one, from 1, are forgotten
+abbrev pub Forgets : OwnedState → ℕ → OwnedState → Type 0
+Forgets old place new =
+    (new.payload ≡ old.payload) × KeepsRoom old.core.room new.core.room
+    × (new.core ≡ record old.core {
+      forgotten = max old.core.forgotten (min (place - 1) (length old.core.past));
+      room = new.core.room;
+    })

@@ -4,7 +4,7 @@ ghost use Rattle.std.specs.Prelude.{◌++◌, ◌≡◌, ◌<◌, ◌≤◌, IfO
 ghost use Rattle.c_handles.specs.Owned.{Keeps};
 ghost use Rattle.c_handles.specs.Configurations.{given_numbers};
 ghost use Rattle.nvme_model.specs.Medium.{medium};
-ghost use Rattle.vandrexu_c.specs.OwnedStates.{IsNewController, OwnedState, MayRefuse, Reserves};
+ghost use Rattle.vandrexu_c.specs.OwnedStates.{Forgets, IsNewController, OwnedState, MayRefuse, Reserves};
 
 use crate::copying::fits;
 use crate::held::Handle;
@@ -12,17 +12,21 @@ use crate::lending::{fill, lend};
 use crate::numbers::TOO_SMALL;
 use crate::owned_controller::OwnedController;
 use c_handles::GivenConfig;
-use c_handles::numbers::NO_MEMORY;
+use c_handles::numbers::{NO_BLOCK, NO_MEMORY};
 use history::Config;
 use std::alloc::{AllocError as NoMemory, Global};
 use step_core::Core;
 
-const NO_BLOCK: u32 = 104;
-
 // A controller in a box.
 fn own_controller(alloc: Global, config: Config) -> Result<Box<OwnedController>, NoMemory>
     ensures core { IfOk result (λ b.
-        b.value.core ≡ record { config = config; past = []; promised = 0; room = b.value.core.room }) }
+        b.value.core ≡ record {
+          config = config;
+          past = [];
+          forgotten = 0;
+          promised = 0;
+          room = b.value.core.room;
+        }) }
     ensures payload { IfOk result (λ b. b.value.payload ≡ []) }
 {
     let core = Core::new(alloc, config)?;
@@ -75,6 +79,23 @@ pub extern "C" fn vandrexu_controller_reserve(
         Ok(()) => 0,
         Err(_) => NO_MEMORY,
     }
+}
+
+/// Forgets the entries of the history before a place, which counts as in `vandrexu_controller_history`: their memory is
+/// free for others, and all else is as before. 0; or 101 where the handle owns nothing.
+#[unsafe(no_mangle)]
+pub extern "C" fn vandrexu_controller_forget(
+    alloc: Global,
+    controller: &mut Handle,
+    place: u64,
+) -> u32
+    ensures no_handle { controller.old.held.core ≡ None → (result ≡ 101) × (controller.new.held.core ≡ None) }
+    ensures forgets { (m : OwnedState) → controller.old.held.core ≡ Some m →
+        (result ≡ 0) × Keeps controller.new.held.core (λ n. Forgets m place n) }
+{
+    let before = (place as usize).saturating_sub(1);
+    lend!(alloc, controller, mut owned => owned.as_mut().core.forget(before));
+    0
 }
 
 /// Copies a block as it lies in the volume: 0; or 104 where there is no such block; or 101 where the handle owns

@@ -3,7 +3,8 @@
 ghost use Rattle.std.specs.Prelude.{◌+◌, ◌≡◌, ◌≤◌, IfOk, None, Some};
 ghost use Rattle.c_handles.specs.Owned.{Keeps};
 ghost use Rattle.c_handles.specs.Configurations.{given_numbers};
-ghost use Rattle.c_handles.specs.Disks.{FetchTells, IsNewDisk, MayRefuseDisk, ServesDisk, TaskTells};
+ghost use Rattle.c_handles.specs.Disks.{FetchTells, ForgetTells, IsNewDisk, MayRefuseDisk, ServesDisk};
+ghost use Rattle.c_handles.specs.Disks.{TaskTells};
 ghost use Rattle.c_handles.specs.Handles.{disk_in};
 ghost use Rattle.c_handles.specs.declared.disk.Disk.{Disk as TheDisk};
 
@@ -76,6 +77,19 @@ pub extern "C" fn vandrexu_disk_task(alloc: Global, disk: &mut DiskHandle) -> u3
         Keeps (disk_in disk.new) (λ e. TaskTells d e result) }
 {
     lend!(alloc, disk, mut owned => owned.as_mut().task())
+}
+
+/// Forgets the entries of the disk's history before a place, which counts as in `vandrexu_controller_history`: their
+/// memory is free for others, and all else is as before. 0; or 12 where another handle had the controller; or 101 where
+/// the handle owns nothing.
+#[unsafe(no_mangle)]
+pub extern "C" fn vandrexu_disk_forget(alloc: Global, disk: &mut DiskHandle, place: u64) -> u32
+    ensures no_handle { disk_in disk.old ≡ None → (result ≡ 101) × (disk_in disk.new ≡ None) }
+    ensures forgets { (d : TheDisk) → disk_in disk.old ≡ Some d →
+        Keeps (disk_in disk.new) (λ e. ForgetTells d e result) }
+{
+    let before = (place as usize).saturating_sub(1);
+    lend!(alloc, disk, mut owned => owned.as_mut().forget(before))
 }
 
 /// Serves the next command, or fused pair, of a submission queue to its end, or goes on with what was fetched before

@@ -2,7 +2,7 @@
 use Rattle.std.proofs.Common.{◌≡◌, ℕ, zero, suc, ◌==◌, Bool, true, false, cond, List, [], ◌∷◌, ◌++◌, drop, slice_get}
 use Rattle.std.proofs.Common.{refl, sym, ap, ◌∙◌}
 use Rattle.std.proofs.lemmas.List.{drop-append-le, drop-drop, drop-map, map-append}
-use Rattle.nvme_model.specs.Completions.{posted_completions, reaped_count}
+use Rattle.nvme_model.specs.Completions.{posted_completions, reaped_count, reaped_payload}
 use Rattle.nvme_model.specs.Config.{completion_queue}
 use Rattle.nvme_model.specs.History.{Past}
 use Rattle.nvme_model.specs.Legal.{IsLegal}
@@ -12,7 +12,7 @@ use Rattle.nvme_model.specs.declared.entry.Entry.{Entry}
 use Rattle.nvme_model.specs.declared.entry.PostLine.{PostLine}
 use Rattle.nvme_model.specs.declared.entry.ReapLine.{ReapLine}
 use Rattle.nvme_model.proofs.Runs.{reaped_posted}
-use Rattle.trace.specs.Observed.{next_payload, payload_by}
+use Rattle.trace.specs.Observed.{next_payload}
 use Rattle.witness_check.specs.Waiting.{data_or_none, posted_payloads, waiting_payloads}
 
 -- ---- a Post
@@ -44,7 +44,7 @@ waits_reaped c past r q =
     (drop (reaped_count past q) (posted_completions c past q)))
 
 first_of : (n : ℕ) (xs : List PostLine)
-    → payload_by (slice_get xs n) ≡ data_or_none (slice_get (posted_payloads (drop n xs)) 0)
+    → reaped_payload (slice_get xs n) ≡ data_or_none (slice_get (posted_payloads (drop n xs)) 0)
 first_of zero [] = refl
 first_of zero (x ∷ xs) = refl
 first_of (suc n) [] = refl

@@ -48,6 +48,10 @@ pub record IsFreshPass (e : Engine) (c : ConfigNumbers) (p : EnginePass) : Type 
   pub config : Passes.config_of p ≡ c
   pub seen : Passes.seen p ≡ []
 
+-- What was told is of a controller that is configured as the pass knows, and whose history is what the pass has seen.
+abbrev pub GlancedAt : {T : Type 0} → (ControllerState → T → Type 0) → EnginePass → T → Type 0
+GlancedAt tells q t = Passes.Glanced (λ core. core.config) (λ core. core.past) tells q t
+
 -- the ticket's entries, the newest first
 abbrev pub its : Work → Past
 its w = Passes.its w.owner

@@ -1,6 +1,6 @@
 //! A controller that callers share, each ticket stepped only with its Work.
 
-ghost use Rattle.std.specs.Prelude.{◌≡◌, ◌<◌, ◌+◌, All, None, Some, ℕ, IfErr, IfOk, IfSome, IsSome, OnOk};
+ghost use Rattle.std.specs.Prelude.{◌≡◌, ◌<◌, ◌+◌, All, None, Some, ℕ, IfErr, IfOk, IfSome, IsOk, IsSome, OnErr, OnOk};
 ghost use Rattle.std.specs.Prelude.{[], slice_get, vec_len};
 ghost use Rattle.nvme_model.specs.Passes.{IsBeginning, SharedPast, entries, places};
 ghost use Rattle.nvme_model.specs.Kept.{ControllerInvariant};
@@ -10,7 +10,7 @@ use crate::stages::{stage_after, start_of};
 use crate::task::Task;
 use crate::work::Work;
 use history::Config;
-use meet_lock::{Busy, Declined, Pass, Shared, TicketOwner, Unmade};
+use meet_lock::{Busy, Declined, Glance, Pass, Shared, TicketOwner, Unmade};
 use nvme_model::refusal::Why;
 use nvme_model::submission::{Payload, Submissions};
 use std::alloc::{AllocError as NoMemory, Global};
@@ -86,7 +86,7 @@ impl Engine {
     ghost use Rattle.ticket_laws.specs.Tasks.{task_fault};
     ghost use Rattle.work_queue.specs.Duties.{duty_of, task_step};
     ghost use Rattle.work_queue.specs.Posted.{IsAnswerPosted};
-    ghost use Rattle.work_queue.specs.Engines.{FetchedAs, IsFreshPass, IsNoTaskFault, IsPassOfEngine};
+    ghost use Rattle.work_queue.specs.Engines.{FetchedAs, GlancedAt, IsFreshPass, IsNoTaskFault, IsPassOfEngine};
     ghost use Rattle.work_queue.specs.Engines.{IsWorkOf, OpenedAs, its, open_step, opening_of};
 
     /// The controller with a lock round it, and as many passes as asked for, numbered from 1 in order.
@@ -302,6 +302,40 @@ impl Engine {
             × (seen second.new ≡ seen second.old)) }
     {
         self.shared.meet(first, second)
+    }
+
+    /// The controller forgets the entries of its history before this place, from 0, the oldest first, if no other
+    /// caller has the lock. What passes have seen stays, and this one sees the whole history so far, with what is
+    /// forgotten. Takes no memory.
+    ///
+    /// # Errors
+    ///
+    /// `Busy` where another caller had the lock; nothing has changed.
+    pub fn forget(&self, pass: &mut Pass<Core>, place: usize) -> Result<(), Busy>
+        requires { IsPassOfEngine self.now pass.old }
+        ensures same { IsSame pass.old pass.new × (mine pass.new ≡ mine pass.old) }
+        ensures knows { Knows ControllerInvariant pass.old pass.new }
+        ensures busy { OnErr result (seen pass.new ≡ seen pass.old) }
+        ensures alone { passes_of pass.old ≡ 1 → IsOk result }
+    {
+        self.shared.forget(pass, place)
+    }
+
+    /// Looks at the controller, if no other caller has the lock: the pass sees the whole history so far, and what is
+    /// told is of a controller with that history. It takes no memory but what the look takes.
+    ///
+    /// # Errors
+    ///
+    /// `Busy` where another caller had the lock; nothing has changed.
+    pub fn glance<G: Glance<Core>>(&self, pass: &mut Pass<Core>, glance: G) -> Result<G::Told, Busy>
+        requires { IsPassOfEngine self.now pass.old }
+        ensures same { IsSame pass.old pass.new × (mine pass.new ≡ mine pass.old) }
+        ensures knows { Knows ControllerInvariant pass.old pass.new }
+        ensures told { IfOk result (GlancedAt (G.tells glance) pass.new) }
+        ensures busy { IfErr result (λ _. seen pass.new ≡ seen pass.old) }
+        ensures alone { passes_of pass.old ≡ 1 → OnErr result ⊥ }
+    {
+        self.shared.glance(pass, glance)
     }
 
     /// Tells what holds of whatever the pass has seen: it is what a controller keeps of its history, and goes on from

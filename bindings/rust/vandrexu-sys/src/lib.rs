@@ -50,6 +50,7 @@ pub const VANDREXU_OTHER_CONFIG: u32 = 111;
 pub const VANDREXU_GAVE_UP: u32 = 112;
 pub const VANDREXU_NOT_FOUND: u32 = 126;
 pub const VANDREXU_NOT_REFUTED: u32 = 127;
+pub const VANDREXU_FORGOTTEN: u32 = 129;
 
 // ---- What a call about a disk or a host answers besides
 
@@ -77,6 +78,7 @@ pub const VANDREXU_NOT_HELD: u32 = 119;
 pub const VANDREXU_HELD: u32 = 120;
 pub const VANDREXU_BAD_NAME: u32 = 122;
 pub const VANDREXU_BAD_AREA: u32 = 123;
+pub const VANDREXU_SLOTS_MISUSED: u32 = 128;
 
 // ---- What a step says
 
@@ -168,11 +170,27 @@ pub struct vandrexu_slot_host {
     pub live: u32,
 }
 
+#[repr(C)]
+#[derive(Debug)]
+pub struct vandrexu_tracer {
+    pub at: *mut c_void,
+    pub live: u32,
+}
+
+#[repr(C)]
+#[derive(Debug)]
+pub struct vandrexu_slot_checker {
+    pub at: *mut c_void,
+    pub live: u32,
+}
+
 pub const VANDREXU_CONTROLLER_NONE: vandrexu_controller = vandrexu_controller { at: ptr::null_mut(), live: 0 };
 pub const VANDREXU_CHECKER_NONE: vandrexu_checker = vandrexu_checker { at: ptr::null_mut(), live: 0 };
 pub const VANDREXU_DISK_NONE: vandrexu_disk = vandrexu_disk { at: ptr::null_mut(), live: 0 };
 pub const VANDREXU_HOST_NONE: vandrexu_host = vandrexu_host { at: ptr::null_mut(), live: 0 };
 pub const VANDREXU_SLOT_HOST_NONE: vandrexu_slot_host = vandrexu_slot_host { at: ptr::null_mut(), live: 0 };
+pub const VANDREXU_TRACER_NONE: vandrexu_tracer = vandrexu_tracer { at: ptr::null_mut(), live: 0 };
+pub const VANDREXU_SLOT_CHECKER_NONE: vandrexu_slot_checker = vandrexu_slot_checker { at: ptr::null_mut(), live: 0 };
 
 // ---- What is lent to calls
 
@@ -305,6 +323,7 @@ unsafe extern "C" {
         needed: *mut usize,
         next: *mut u64,
     ) -> u32;
+    pub fn vandrexu_controller_forget(controller: *mut vandrexu_controller, place: u64) -> u32;
     pub fn vandrexu_checker_new(config: *const vandrexu_config, checker: *mut vandrexu_checker) -> u32;
     pub fn vandrexu_checker_free(checker: *mut vandrexu_checker);
     pub fn vandrexu_checker_take_line(checker: *mut vandrexu_checker, line: *const u8, length: usize) -> u32;
@@ -316,6 +335,10 @@ unsafe extern "C" {
         room: usize,
         needed: *mut usize,
     ) -> u32;
+    pub fn vandrexu_tracer_new(config: *const vandrexu_config, tracer: *mut vandrexu_tracer) -> u32;
+    pub fn vandrexu_tracer_free(tracer: *mut vandrexu_tracer);
+    pub fn vandrexu_tracer_take_line(tracer: *mut vandrexu_tracer, line: *const u8, length: usize) -> u32;
+    pub fn vandrexu_tracer_seen(tracer: *mut vandrexu_tracer, out: *mut u8, room: usize, needed: *mut usize) -> u32;
     pub fn vandrexu_run_text(
         script: *const u8,
         script_length: usize,
@@ -365,11 +388,24 @@ unsafe extern "C" {
         needed: *mut usize,
         line: *mut u64,
     ) -> u32;
+    pub fn vandrexu_heap_limit(bytes: usize);
+    pub fn vandrexu_heap_used() -> usize;
     pub fn vandrexu_disk_new(config: *const vandrexu_config, hosts: u16, disk: *mut vandrexu_disk) -> u32;
     pub fn vandrexu_disk_free(disk: *mut vandrexu_disk);
     pub fn vandrexu_disk_serve(disk: *mut vandrexu_disk, queue: u16) -> u32;
     pub fn vandrexu_disk_fetch(disk: *mut vandrexu_disk, queue: u16) -> u32;
     pub fn vandrexu_disk_task(disk: *mut vandrexu_disk) -> u32;
+    pub fn vandrexu_disk_forget(disk: *mut vandrexu_disk, place: u64) -> u32;
+    pub fn vandrexu_disk_history(
+        disk: *mut vandrexu_disk,
+        from: u64,
+        out: *mut u8,
+        room: usize,
+        needed: *mut usize,
+        next: *mut u64,
+    ) -> u32;
+    pub fn vandrexu_disk_history_count(disk: *mut vandrexu_disk, count: *mut u64) -> u32;
+    pub fn vandrexu_disk_medium(disk: *mut vandrexu_disk, lba: u64, out: *mut u8) -> u32;
     pub fn vandrexu_host_new(disk: *mut vandrexu_disk, number: u32, queue: u16, host: *mut vandrexu_host) -> u32;
     pub fn vandrexu_host_free(host: *mut vandrexu_host);
     pub fn vandrexu_host_read(host: *mut vandrexu_host, lba: u64, blocks: u32) -> u32;
@@ -406,4 +442,20 @@ unsafe extern "C" {
     pub fn vandrexu_slot_take_over(host: *mut vandrexu_slot_host, slot: u32, dead_host: u32, dead_serial: u64) -> u32;
     pub fn vandrexu_slot_ask_holder(host: *mut vandrexu_slot_host, slot: u32) -> u32;
     pub fn vandrexu_slot_poll(host: *mut vandrexu_slot_host, reply: *mut vandrexu_slot_reply) -> u32;
+    pub fn vandrexu_slot_checker_new(
+        config: *const vandrexu_config,
+        first: u64,
+        count: u32,
+        checker: *mut vandrexu_slot_checker,
+    ) -> u32;
+    pub fn vandrexu_slot_checker_free(checker: *mut vandrexu_slot_checker);
+    pub fn vandrexu_slot_checker_take_line(checker: *mut vandrexu_slot_checker, line: *const u8, length: usize) -> u32;
+    pub fn vandrexu_slot_checker_why(
+        checker: *mut vandrexu_slot_checker,
+        place: *mut u64,
+        block: *mut u64,
+        out: *mut u8,
+        room: usize,
+        needed: *mut usize,
+    ) -> u32;
 }

@@ -55,14 +55,14 @@ fn the_constants_are_those_of_the_header() {
         VANDREXU_FOUND_READ VANDREXU_EQUAL VANDREXU_DIFFERS VANDREXU_WRITTEN
         VANDREXU_STEP_GRANT VANDREXU_STEP_BLOCK VANDREXU_STEP_POST
         VANDREXU_NOT_EXPLAINED VANDREXU_BAD_HISTORY VANDREXU_OTHER_CONFIG VANDREXU_GAVE_UP
-        VANDREXU_NOT_FOUND VANDREXU_NOT_REFUTED
+        VANDREXU_NOT_FOUND VANDREXU_NOT_REFUTED VANDREXU_FORGOTTEN
         VANDREXU_BUSY VANDREXU_CALL_LENGTH VANDREXU_CALL_TOO_LONG VANDREXU_CALL_NO_ROOM VANDREXU_CALL_FAILED
         VANDREXU_CALL_BUSY VANDREXU_CALL_NO_MEMORY VANDREXU_CALL_SLOT_AREA VANDREXU_UNFINISHED VANDREXU_NO_HOST
         VANDREXU_BAD_NUMBER VANDREXU_IN_CALL VANDREXU_NO_CALL VANDREXU_USED_NUMBER VANDREXU_USED_QUEUE
         VANDREXU_REPLY_PENDING VANDREXU_REPLY_READ VANDREXU_REPLY_WRITTEN VANDREXU_REPLY_EQUAL VANDREXU_REPLY_DIFFERS
         VANDREXU_REPLY_SWAPPED VANDREXU_REPLY_FAILED
         VANDREXU_CALL_NO_SERIAL VANDREXU_NO_SLOT VANDREXU_NOT_HELD VANDREXU_HELD VANDREXU_BAD_NAME
-        VANDREXU_BAD_AREA
+        VANDREXU_BAD_AREA VANDREXU_SLOTS_MISUSED
         VANDREXU_SLOT_PENDING VANDREXU_SLOT_HELD VANDREXU_SLOT_TAKEN VANDREXU_SLOT_RELEASED VANDREXU_SLOT_FREE
         VANDREXU_SLOT_OF_NAME VANDREXU_SLOT_FOREIGN VANDREXU_SLOT_FAILED
         VANDREXU_PUBLISH_LINES VANDREXU_FETCH_LINES VANDREXU_GRANT_LINES VANDREXU_BLOCK_LINES VANDREXU_POST_LINES
@@ -72,8 +72,8 @@ fn the_constants_are_those_of_the_header() {
     let constants = DECLARED.matches("pub const VANDREXU_").count();
     assert_eq!(
         constants,
-        declared.len() + 6,
-        "a constant is compared with nothing: the version and five handles aside"
+        declared.len() + 8,
+        "a constant is compared with nothing: the version and seven handles aside"
     );
 }
 
@@ -141,6 +141,8 @@ fn the_layouts_are_those_of_the_header() {
     let declared = layouts! {
         vandrexu_controller { at live }
         vandrexu_checker { at live }
+        vandrexu_tracer { at live }
+        vandrexu_slot_checker { at live }
         vandrexu_disk { at live }
         vandrexu_host { at live }
         vandrexu_slot_host { at live }
@@ -176,10 +178,11 @@ fn functions() -> Vec<String> {
     let text = header();
     let words = text.split_whitespace().collect::<Vec<_>>().join(" ");
     let mut found = Vec::new();
-    for (kind, answer) in [("uint32_t vandrexu_", "->u32"), ("void vandrexu_", "")] {
+    for (kind, answer) in [("uint32_t vandrexu_", "->u32"), ("size_t vandrexu_", "->usize"), ("void vandrexu_", "")] {
         for part in between(&words, kind, ";") {
             if let Some((name, rest)) = part.split_once('(').filter(|it| it.1.ends_with(')')) {
-                let taken: Vec<_> = rest.trim_end_matches(')').split(", ").map(argument).collect();
+                let taken: Vec<_> =
+                    rest.trim_end_matches(')').split(", ").filter(|it| *it != "void").map(argument).collect();
                 found.push(format!("pubfnvandrexu_{name}({}){answer}", taken.join(",")));
             }
         }

@@ -256,7 +256,7 @@ impl Engine {
     }
 
     fn write_down(&mut self) -> std::io::Result<()> {
-        self.history.write(&self.disk)?;
+        self.history.write(&mut self.disk)?;
         self.trace.flush()
     }
 

@@ -24,14 +24,17 @@ impl History {
         Ok(History { out: create(path)?, next: 0 })
     }
 
-    /// Writes the steps that were made since.
-    pub(crate) fn write(&mut self, disk: &Controller) -> io::Result<()> {
-        let Some(out) = &mut self.out else { return Ok(()) };
-        for line in disk.history(self.next) {
-            writeln!(out, "{}", line.map_err(|it| io::Error::other(it.to_string()))?)?;
-            self.next += 1;
+    /// Writes the steps that were made since, and lets the controller forget them.
+    pub(crate) fn write(&mut self, disk: &mut Controller) -> io::Result<()> {
+        if let Some(out) = &mut self.out {
+            for line in disk.history(self.next) {
+                writeln!(out, "{}", line.map_err(|it| io::Error::other(it.to_string()))?)?;
+                self.next += 1;
+            }
+            out.flush()?;
         }
-        out.flush()
+        disk.forget(disk.history_count() + 1);
+        Ok(())
     }
 }
 

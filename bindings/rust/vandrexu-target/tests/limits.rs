@@ -28,27 +28,33 @@ fn connections_are_limited_and_free_again() {
     host(&target, 2);
 }
 
-#[test]
-fn at_its_memory_limit_a_target_answers_each_command() {
+/// The resident memory of this process, in bytes.
+fn resident() -> u64 {
     let now = std::fs::read_to_string("/proc/self/statm").unwrap();
-    let pages: u64 = now.split(' ').nth(1).unwrap().parse().unwrap();
-    let target = start(Options { memory: Some(pages * 4096 + (64 << 20)), ..options() });
-    let mut host = host(&target, 1);
-    let (mut done, mut refused) = (0, 0);
-    for round in 0..2000u32 {
-        let data = blocks(round as u8, 256);
-        let sent = Command::blocks(opcode::WRITE, 0, 256);
-        let answer = host.queues[0].call(sent, &data, 0).unwrap();
-        match code(&answer) {
-            DONE => done += 1,
-            (0, 6) => refused += 1,
-            other => panic!("{other:?}"),
-        }
-        if refused > 50 {
-            break;
+    now.split(' ').nth(1).unwrap().parse::<u64>().unwrap() * 4096
+}
+
+#[test]
+fn a_target_keeps_no_step_that_it_wrote_down() {
+    let folder = Folder::new();
+    for history in [None, Some(folder.file("history"))] {
+        let target = start(Options { history, memory: Some(resident() + (64 << 20)), ..options() });
+        let mut host = host(&target, 1);
+        for round in 0..1000u32 {
+            let data = blocks(round as u8, 256);
+            let answer = host.queues[0].call(Command::blocks(opcode::WRITE, 0, 256), &data, 0).unwrap();
+            assert_eq!(code(&answer), DONE, "Write {round} of 128 KiB");
         }
     }
-    assert!(done > 10 && refused > 50, "{done} done, {refused} refused");
+}
+
+#[test]
+fn over_its_memory_limit_a_target_answers_each_command() {
+    let target = start(Options { memory: Some(1 << 20), ..options() });
+    let mut host = host(&target, 1);
+    for round in 0..50 {
+        assert_eq!(write(&mut host, 0, &blocks(round, 1)), (0, 6));
+    }
     assert_eq!(code(&host.identify(1, 0).unwrap()), DONE);
 }
 

@@ -1,6 +1,7 @@
 //! The checker of histories.
 use crate::Config;
 use crate::error::{Error, Result, told};
+use crate::room::{resize, text, zeros};
 use std::cell::UnsafeCell;
 use std::fmt;
 use vandrexu_sys as sys;
@@ -58,7 +59,7 @@ impl Checker {
     /// [`Error::BadLine`], [`Error::NoMemory`].
     pub fn why(&self, line: impl AsRef<[u8]>) -> Result<Option<String>> {
         let line = line.as_ref();
-        let mut words = vec![0; 128];
+        let mut words = zeros(128)?;
         loop {
             let mut needed = 0;
             // SAFETY: as in take_line; so much room is there.
@@ -74,8 +75,8 @@ impl Checker {
             };
             match told(status) {
                 Ok(()) => return Ok(None),
-                Err(Error::NotLegal) => return Ok(Some(String::from_utf8_lossy(&words[..needed]).into_owned())),
-                Err(Error::TooSmall) => words.resize(needed, 0),
+                Err(Error::NotLegal) => return Ok(Some(text(&words[..needed])?)),
+                Err(Error::TooSmall) => resize(&mut words, needed)?,
                 Err(other) => return Err(other),
             }
         }

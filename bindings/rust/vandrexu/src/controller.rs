@@ -1,7 +1,8 @@
 //! The controller.
 use crate::answers::{Blocked, Completion, Granted, Made, Reaped, Step, Work};
 use crate::error::{Error, Result, told};
-use crate::iterators::{Completions, HistoryLines, Steps};
+use crate::iterators::{Completions, HistoryLines, Source, Steps, piece};
+use crate::room::{room, zeros};
 use crate::{BLOCK, Config, Entry};
 use std::cell::UnsafeCell;
 use std::fmt;
@@ -76,9 +77,12 @@ impl Controller {
     /// # Errors
     /// [`Error::NoQueue`], [`Error::NoRoom`], [`Error::BadBatch`] of no entry, [`Error::NoMemory`].
     pub fn publish(&mut self, queue: u16, entries: &[Entry<'_>]) -> Result<()> {
-        let data: Vec<u8> = entries.iter().flat_map(|it| it.data).copied().collect();
-        let raw: Vec<_> =
-            entries.iter().map(|it| sys::vandrexu_entry { bytes: it.bytes, count: it.data.len() }).collect();
+        let mut data = room(entries.iter().map(|it| it.data.len()).sum())?;
+        let mut raw = room(entries.len())?;
+        for it in entries {
+            data.extend_from_slice(it.data);
+            raw.push(sys::vandrexu_entry { bytes: it.bytes, count: it.data.len() });
+        }
         // SAFETY: as `at` says; an empty Vec has an address that isn't null.
         told(unsafe {
             sys::vandrexu_controller_publish(self.at(), queue, raw.as_ptr(), raw.len(), data.as_ptr(), data.len())
@@ -204,15 +208,52 @@ impl Controller {
     /// Takes the next completion of a completion queue, with what a successful Read read.
     ///
     /// # Errors
-    /// [`Error::NoQueue`], [`Error::NoCompletion`], [`Error::NoMemory`].
+    /// [`Error::NoQueue`], [`Error::NoCompletion`], [`Error::NoMemory`]. Where there is no memory for what was read, the
+    /// completion is taken all the same: [`Controller::reap_completion`] takes none for it.
     pub fn reap(&mut self, queue: u16) -> Result<Reaped> {
+        let (completion, count) = self.reap_completion(queue)?;
+        let mut data = zeros(count)?;
+        self.data(&mut data)?;
+        Ok(Reaped { completion, data })
+    }
+
+    /// Takes the next completion of a completion queue, and says how many bytes it read: [`Controller::data`] has them
+    /// until the next completion is taken.
+    ///
+    /// ```
+    /// use vandrexu::{Config, Controller, Entry, Error};
+    ///
+    /// let mut disk = Controller::new(&Config::default())?;
+    /// disk.publish(1, &[Entry::read(7, 3)])?;
+    /// disk.fetch(1)?;
+    /// disk.settle()?;
+    /// let mut room = [1; 600];
+    /// let (completion, count) = disk.reap_completion(1)?;
+    /// assert_eq!((completion.cid(), count), (7, 512));
+    /// assert_eq!(disk.data(&mut room[..511]), Err(Error::TooSmall));
+    /// assert_eq!(disk.data(&mut room), Ok(512));
+    /// assert_eq!((room[511], room[512]), (0, 1));
+    /// # Ok::<(), Error>(())
+    /// ```
+    ///
+    /// # Errors
+    /// [`Error::NoQueue`], [`Error::NoCompletion`], [`Error::NoMemory`].
+    pub fn reap_completion(&mut self, queue: u16) -> Result<(Completion, usize)> {
         let (mut completion, mut count) = (Completion([0; 16]), 0);
         // SAFETY: as `at` says; 16 bytes are there.
         told(unsafe { sys::vandrexu_controller_reap(self.at(), queue, completion.0.as_mut_ptr(), &mut count) })?;
-        let mut data = vec![0; count];
-        // SAFETY: as `at` says; so many bytes are there, and an empty Vec has an address that isn't null.
-        told(unsafe { sys::vandrexu_controller_data(self.at(), data.as_mut_ptr(), data.len(), &mut count) })?;
-        Ok(Reaped { completion, data })
+        Ok((completion, count))
+    }
+
+    /// Copies what the completion that was taken last had read, and says how many bytes that is.
+    ///
+    /// # Errors
+    /// [`Error::TooSmall`] where the room is: nothing is copied.
+    pub fn data(&self, room: &mut [u8]) -> Result<usize> {
+        let mut count = 0;
+        // SAFETY: as `at` says; so many bytes are there, and a slice has an address that isn't null.
+        told(unsafe { sys::vandrexu_controller_data(self.at(), room.as_mut_ptr(), room.len(), &mut count) })?;
+        Ok(count)
     }
 
     /// Takes completions of a completion queue, as they are asked for, until none is there.
@@ -256,8 +297,28 @@ impl Controller {
         count
     }
 
+    /// Forgets the steps before a place, which counts as in [`Controller::history`]: their memory is used again, and the
+    /// places of the others stay. What was forgotten before stays so.
+    ///
+    /// ```
+    /// use vandrexu::{Config, Controller, Entry, Error};
+    ///
+    /// let mut disk = Controller::new(&Config::default())?;
+    /// disk.publish(1, &[Entry::flush(7)])?;
+    /// disk.fetch(1)?;
+    /// disk.forget(2);
+    /// assert_eq!(disk.history(1).next(), Some(Err(Error::Forgotten)));
+    /// assert_eq!(disk.history(2).next(), Some(Ok("fetch 1 1 1 ok".into())));
+    /// # Ok::<(), vandrexu::Error>(())
+    /// ```
+    pub fn forget(&mut self, place: u64) {
+        // SAFETY: as `at` says.
+        let status = unsafe { sys::vandrexu_controller_forget(self.at(), place) };
+        assert_eq!(told(status), Ok(()), "a controller has its handle until it is dropped");
+    }
+
     /// The lines of the history from a place on, without their line feeds. Place 0 is the configuration's line, and place
-    /// k the k-th step's; what stands before costs nothing.
+    /// k the k-th step's; what stands before costs nothing. A step that was forgotten gives [`Error::Forgotten`].
     ///
     /// ```
     /// use vandrexu::{Config, Controller, Entry};
@@ -273,23 +334,15 @@ impl Controller {
     /// # Ok::<(), vandrexu::Error>(())
     /// ```
     pub fn history(&self, from: u64) -> HistoryLines<'_> {
-        HistoryLines::of(self, from)
+        HistoryLines::of(Source::Controller(self), from)
     }
 
-    /// A piece of the history in this room, which grows where not one line fits: its length, and the place behind it.
+    /// A piece of the history in this room: its length, and the place behind it.
     pub(crate) fn piece(&self, from: u64, room: &mut Vec<u8>) -> Result<(usize, u64)> {
-        loop {
-            let (mut needed, mut next) = (0, 0);
+        piece(room, |out, length, needed, next| {
             // SAFETY: as `at` says; so many bytes are there.
-            let status = unsafe {
-                sys::vandrexu_controller_history(self.at(), from, room.as_mut_ptr(), room.len(), &mut needed, &mut next)
-            };
-            match told(status) {
-                Ok(()) => return Ok((needed, next)),
-                Err(Error::TooSmall) => room.resize(needed, 0),
-                Err(other) => return Err(other),
-            }
-        }
+            unsafe { sys::vandrexu_controller_history(self.at(), from, out, length, needed, next) }
+        })
     }
 }
 

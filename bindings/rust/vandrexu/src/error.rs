@@ -124,6 +124,8 @@ errors! {
     UsedQueue = VANDREXU_USED_QUEUE, "a host of the disk had the completion queue of this submission queue before";
     NotFound = VANDREXU_NOT_FOUND, "neither a history nor a refutation was found";
     NotRefuted = VANDREXU_NOT_REFUTED, "the trace isn't refuted by this";
+    SlotsMisused = VANDREXU_SLOTS_MISUSED, "the history with this line doesn't keep the discipline of slots";
+    Forgotten = VANDREXU_FORGOTTEN, "the step at this place was forgotten";
 }
 
 impl std::error::Error for Error {}

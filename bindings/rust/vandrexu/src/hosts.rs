@@ -1,6 +1,8 @@
 //! A disk that hosts share, and hosts with a driver each.
-use crate::Config;
 use crate::error::{Error, Result, told};
+use crate::iterators::{HistoryLines, Source, piece};
+use crate::room::resize;
+use crate::{BLOCK, Config};
 use std::cell::UnsafeCell;
 use std::fmt;
 use vandrexu_sys as sys;
@@ -117,6 +119,73 @@ impl Disk {
             Err(Error::NothingReady) => Ok(false),
             Err(other) => Err(other),
         }
+    }
+
+    /// Forgets the steps of the disk's history before a place, the k-th step's being k: their memory is used again.
+    /// `u64::MAX` is for all so far. Nothing that a host or the disk is answered changes by it.
+    ///
+    /// # Errors
+    /// [`Error::Busy`].
+    pub fn forget(&mut self, place: u64) -> Result<()> {
+        // SAFETY: as in host.
+        told(unsafe { sys::vandrexu_disk_forget(self.handle.get(), place) })
+    }
+}
+
+impl Disk {
+    /// How many steps were made.
+    ///
+    /// # Errors
+    /// [`Error::Busy`].
+    pub fn history_count(&self) -> Result<u64> {
+        let mut count = 0;
+        // SAFETY: as in host.
+        told(unsafe { sys::vandrexu_disk_history_count(self.handle.get(), &mut count) })?;
+        Ok(count)
+    }
+
+    /// The lines of the history from a place on, as of [`Controller::history`](crate::Controller::history). Each
+    /// [`Error::Busy`] ends it.
+    ///
+    /// ```
+    /// use vandrexu::{Checker, Config, Disk, SlotChecker};
+    ///
+    /// let config = Config { pairs: 2, cqs: 2, ..Config::default() };
+    /// let mut disk = Disk::with_slots(&config, 1, 2, 4)?;
+    /// let mut one = disk.slot_host(1, 1)?;
+    /// one.claim(0)?;
+    /// disk.serve(1)?;
+    /// let (mut legal, mut slots) = (Checker::new(&config)?, SlotChecker::new(&config, 2, 4)?);
+    /// for line in disk.history(1) {
+    ///     let line = line?;
+    ///     legal.take_line(&line)?;
+    ///     slots.take_line(&line)?;
+    /// }
+    /// assert_eq!(disk.history_count()?, 7);
+    /// assert_eq!(disk.medium(2)?[0], 1);
+    /// # Ok::<(), vandrexu::Error>(())
+    /// ```
+    pub fn history(&self, from: u64) -> HistoryLines<'_> {
+        HistoryLines::of(Source::Disk(self), from)
+    }
+
+    /// A piece of the history in this room: its length, and the place behind it.
+    pub(crate) fn piece(&self, from: u64, room: &mut Vec<u8>) -> Result<(usize, u64)> {
+        piece(room, |out, length, needed, next| {
+            // SAFETY: as in host; so many bytes are there.
+            unsafe { sys::vandrexu_disk_history(self.handle.get(), from, out, length, needed, next) }
+        })
+    }
+
+    /// The block as it lies in the volume, also in the middle of a unit.
+    ///
+    /// # Errors
+    /// [`Error::NoBlock`], [`Error::Busy`].
+    pub fn medium(&self, lba: u64) -> Result<[u8; BLOCK]> {
+        let mut block = [0; BLOCK];
+        // SAFETY: as in host; 512 bytes are there.
+        told(unsafe { sys::vandrexu_disk_medium(self.handle.get(), lba, block.as_mut_ptr()) })?;
+        Ok(block)
     }
 }
 
@@ -279,7 +348,7 @@ impl Host {
                 unsafe { sys::vandrexu_host_data(self.handle.get(), data.as_mut_ptr(), data.len(), &mut needed) };
             match told(status) {
                 Ok(()) => return Ok(data),
-                Err(Error::TooSmall) => data.resize(needed, 0),
+                Err(Error::TooSmall) => resize(&mut data, needed)?,
                 Err(other) => return Err(other),
             }
         }

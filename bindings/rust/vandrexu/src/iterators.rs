@@ -1,7 +1,9 @@
 //! Iterators over the steps that are ready, the completions that are there, and the lines of a history.
 use crate::answers::{Made, Reaped, Step};
 use crate::controller::Controller;
-use crate::error::{Error, Result};
+use crate::error::{Error, Result, told};
+use crate::hosts::Disk;
+use crate::room::{resize, text as text_of, zeros};
 
 /// Makes each step that is ready: [`Controller::steps`].
 #[derive(Debug)]
@@ -62,11 +64,34 @@ impl Iterator for Completions<'_> {
     }
 }
 
-/// The lines of a history: [`Controller::history`].
+/// Whose history lines are of.
+#[derive(Debug)]
+pub(crate) enum Source<'a> {
+    Controller(&'a Controller),
+    Disk(&'a Disk),
+}
+
+/// A piece of a history in this room, which grows where not one line fits: its length, and the place behind it. The call
+/// is given the room, where the length goes and where the place goes.
+pub(crate) fn piece(
+    room: &mut Vec<u8>,
+    call: impl Fn(*mut u8, usize, *mut usize, *mut u64) -> u32,
+) -> Result<(usize, u64)> {
+    loop {
+        let (mut needed, mut next) = (0, 0);
+        match told(call(room.as_mut_ptr(), room.len(), &mut needed, &mut next)) {
+            Ok(()) => return Ok((needed, next)),
+            Err(Error::TooSmall) => resize(room, needed)?,
+            Err(other) => return Err(other),
+        }
+    }
+}
+
+/// The lines of a history: [`Controller::history`] and [`Disk::history`].
 #[derive(Debug)]
 #[must_use = "no line is had before it is asked for"]
 pub struct HistoryLines<'a> {
-    controller: &'a Controller,
+    source: Source<'a>,
     // the place of the first line that isn't in the room, and what of the room wasn't given yet
     next: u64,
     room: Vec<u8>,
@@ -75,13 +100,19 @@ pub struct HistoryLines<'a> {
 }
 
 impl<'a> HistoryLines<'a> {
-    pub(crate) fn of(controller: &'a Controller, from: u64) -> HistoryLines<'a> {
-        HistoryLines { controller, next: from, room: vec![0; 4096], left: 0..0, failed: false }
+    pub(crate) fn of(source: Source<'a>, from: u64) -> HistoryLines<'a> {
+        HistoryLines { source, next: from, room: Vec::new(), left: 0..0, failed: false }
     }
 
     // Fills the room with the next lines.
     fn fill(&mut self) -> Result<()> {
-        let (length, next) = self.controller.piece(self.next, &mut self.room)?;
+        if self.room.is_empty() {
+            self.room = zeros(4096)?;
+        }
+        let (length, next) = match self.source {
+            Source::Controller(controller) => controller.piece(self.next, &mut self.room)?,
+            Source::Disk(disk) => disk.piece(self.next, &mut self.room)?,
+        };
         (self.left, self.next) = (0..length, next);
         Ok(())
     }
@@ -103,8 +134,9 @@ impl Iterator for HistoryLines<'_> {
         }
         let text = &self.room[self.left.clone()];
         let length = text.iter().position(|byte| *byte == b'\n')?;
-        let line = String::from_utf8_lossy(&text[..length]).into_owned();
+        let line = text_of(&text[..length]);
         self.left.start += length + 1;
-        Some(Ok(line))
+        self.failed = line.is_err();
+        Some(line)
     }
 }

@@ -28,6 +28,8 @@
 //! goes::<vandrexu::Disk>();
 //! goes::<vandrexu::Host>();
 //! goes::<vandrexu::SlotHost>();
+//! goes::<vandrexu::SlotChecker>();
+//! goes::<vandrexu::Tracer>();
 //! ```
 //!
 //! ```compile_fail,E0277
@@ -62,8 +64,11 @@ mod entry;
 mod error;
 mod hosts;
 mod iterators;
+mod room;
+mod slot_checker;
 mod slots;
 mod texts;
+mod tracer;
 
 pub use answers::{Blocked, Completion, Found, Granted, Made, Mode, Op, Reaped, Step, Task, Work};
 pub use checker::Checker;
@@ -73,11 +78,36 @@ pub use entry::Entry;
 pub use error::{Error, Result};
 pub use hosts::{Disk, Host, Reply};
 pub use iterators::{Completions, HistoryLines, Steps};
+pub use slot_checker::{SlotChecker, SlotFault};
 pub use slots::{Name, SlotHost, SlotReply};
 pub use texts::{Lines, TextError, certify_text, check_text, observe_text, refute_text, run_text};
+pub use tracer::Tracer;
 
 /// The version of the archive's header.
 pub const VERSION: &str = vandrexu_sys::VANDREXU_VERSION;
 
 /// How many bytes a block of the volume has.
 pub const BLOCK: usize = 512;
+
+/// Lets all that this crate's types own together have so many bytes of memory at the most, from now on, in this process.
+/// What wants more is answered [`Error::NoMemory`], and what is there stays; `usize::MAX` is for no limit.
+///
+/// ```
+/// use vandrexu::{Config, Controller, Error};
+///
+/// vandrexu::heap_limit(vandrexu::heap_used() + 1000);
+/// assert_eq!(Controller::new(&Config::default()).map(drop), Err(Error::NoMemory));
+/// vandrexu::heap_limit(usize::MAX);
+/// assert!(Controller::new(&Config::default()).is_ok());
+/// ```
+pub fn heap_limit(bytes: usize) {
+    // SAFETY: it takes a number, and any thread may call it.
+    unsafe { vandrexu_sys::vandrexu_heap_limit(bytes) }
+}
+
+/// How many bytes that is now. What Rust's own allocator gave, as for a [`Reaped`], doesn't count.
+#[must_use]
+pub fn heap_used() -> usize {
+    // SAFETY: it takes nothing, and any thread may call it.
+    unsafe { vandrexu_sys::vandrexu_heap_used() }
+}

@@ -29,6 +29,7 @@ fn what_is_refused() -> Result<(), Error> {
         (Err(Error::NoEntry), Err(Error::NoQueue), Err(Error::NoEntry))
     );
     assert_eq!((disk.task(), host.poll()), (Ok(false), Err(Error::NoCall)));
+    assert_eq!((disk.forget(0), disk.forget(u64::MAX)), (Ok(()), Ok(())));
     assert_eq!((host.read(0, 0), host.read(0, 257)), (Err(Error::CallLength), Err(Error::CallTooLong)));
     assert_eq!((host.write_zeroes(0, 0), host.write_zeroes(0, 257)), (Err(Error::CallLength), Err(Error::CallTooLong)));
     assert_eq!((host.write(0, &[]), host.compare(0, &[0; 511])), (Err(Error::CallLength), Err(Error::CallLength)));
@@ -207,5 +208,11 @@ fn the_lines_of_a_history_are_what_a_run_prints() -> Result<(), Error> {
         assert_eq!(rest, lines[from.min(lines.len())..]);
     }
     assert_eq!(disk.history(u64::MAX).count(), 0);
+    disk.forget(69);
+    assert_eq!(disk.history(69).collect::<Result<Vec<_>, _>>()?, lines[69..]);
+    let told: Vec<_> = disk.history(0).collect();
+    assert_eq!(told, [Ok(lines[0].clone()), Err(Error::Forgotten)]);
+    assert_eq!(disk.history(68).collect::<Vec<_>>(), [Err(Error::Forgotten)]);
+    assert_eq!(disk.history_count() + 1, lines.len() as u64);
     Ok(())
 }

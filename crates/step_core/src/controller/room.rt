@@ -10,6 +10,7 @@ use range_reserve::Ranges;
 pub(super) fn keep_room(history: &mut History, promised: usize) -> Result<(), Why>
     requires few { promised + 1 < 2 ^ 64 }
     ensures past { history.new.past ≡ history.old.past }
+    ensures forgotten { history.new.forgotten ≡ history.old.forgotten }
     ensures kept { history.old.room ≤ history.new.room }
     ensures ok { OnOk result (promised + 1 ≤ history.new.room) }
     ensures full { OnErr result (history.old.room ≤ promised) }
@@ -26,6 +27,7 @@ pub(super) fn keep_room(history: &mut History, promised: usize) -> Result<(), Wh
 pub(super) fn take_room(history: &mut History, promised: &mut usize) -> Result<(), Why>
     requires room { promised.old ≤ history.old.room }
     ensures past { history.new.past ≡ history.old.past }
+    ensures forgotten { history.new.forgotten ≡ history.old.forgotten }
     ensures kept { history.old.room ≤ history.new.room }
     ensures ok { OnOk result ((promised.new ≡ promised.old - 1) × (promised.new + 1 ≤ history.new.room)) }
     ensures err { OnErr result ((promised.old ≡ 0) × (promised.new ≡ 0)) }
@@ -51,6 +53,7 @@ pub(super) fn take_both(
     requires room { promised.old ≤ history.old.room }
     requires held { promised.old ≤ ranges.old.room }
     ensures past { history.new.past ≡ history.old.past }
+    ensures forgotten { history.new.forgotten ≡ history.old.forgotten }
     ensures ranges { ranges.new.held ≡ ranges.old.held }
     ensures kept { history.old.room ≤ history.new.room }
     ensures kept_ranges { ranges.old.room ≤ ranges.new.room }

@@ -18,8 +18,8 @@ returns-clause-rounds g c =
     let race = c.args.race.now in
     let core = c.args.core.now in
     let same = c.config-config.ensures.value ∙ c.requires.config in
-    let back : reverse c.as_slice.result.now ≡ core.past =
-    ap reverse (c.as_slice.ensures ∙ ap reverse c.history.ensures.past) ∙ reverse-reverse core.past in
+    let back : reverse c.in-Some.entries.now ≡ core.past =
+    ap reverse (c.in-Some.ensures ∙ ap reverse c.history.ensures.past) ∙ reverse-reverse core.past in
     subst (λ (k : ConfigNumbers). OnOk c.finish.result (PrintsRounds k (slots_of race) race.rounds
     (g.W.Write.contents c.args.writer.now) (g.W.Write.contents c.finish.new.writer))) same
     (c.finish.ensures.rounds race.rounds

@@ -35,7 +35,8 @@ returns-in_err-tell_answer-clause-stopped g c =
     let inv = c.loop-turn.invariant in
     let some = rw inv.config at (sym c.step_ready.ensures.step ∙ ap (option_map (λ r. r.0)) c.in-Some.is) in
     let front = rw (inv.config, inv.kinds) at
-    (c.in_err-tell_answer.ensures.stopped c.loop-turn.self.core c.in-Some._step c.in-Some.ensures.serves) in
+    (c.in_err-tell_answer.ensures.stopped c.loop-turn.self.core c.in-Some._step c.in-Some.ensures.serves
+    c.history.ensures.few) in
     on_err _ (settled_stopped _ _ _ _ _ _ _ c.in-Some._step some inv.settled c.loop-turn-test.true _ front)
 
 pub loop-turn-preserved : goal.loop-turn-preserved
@@ -44,13 +45,16 @@ loop-turn-preserved g c =
     let same = c.tell_answer.ensures.same in
     let some = rw inv.config at (sym c.step_ready.ensures.step ∙ ap (option_map (λ r. r.0)) c.in-Some.is) in
     let done = rw (inv.config, inv.kinds) at
-    (c.in_ok-tell_answer.ensures.done c.loop-turn.self.core c.in-Some._step c.in-Some.ensures.serves) in
+    (c.in_ok-tell_answer.ensures.done c.loop-turn.self.core c.in-Some._step c.in-Some.ensures.serves
+    c.history.ensures.few) in
     record {
-      config = ap (λ (x : ControllerState). x.config) same.0
+      config = ap (λ (x : ControllerState). x.config) c.forget.ensures.state
+          ∙ ap (λ (x : ControllerState). x.config) same.0
           ∙ config_served c.loop-turn.self.core c.step_ready.new.self c.in-Some._step c.in-Some.answer
           c.in-Some.ensures.serves ∙ inv.config;
       kinds = same.1 ∙ inv.kinds;
-      settled = settled_next _ _ _ _ _ _ _ c.in-Some._step some inv.settled c.loop-turn-test.true _ _ done;
+      settled = rw (ap (λ (x : ControllerState). x.past) c.forget.ensures.state)
+          (settled_next _ _ _ _ _ _ _ c.in-Some._step some inv.settled c.loop-turn-test.true _ _ done);
     }
 
 pub returns-clause-same : goal.returns-clause-same

@@ -5,20 +5,20 @@ use Rattle.casdisk_texts.proofs.Stepping.{made_done, made_stopped, refused_done,
 use Rattle.casdisk_texts.proofs.performing.Performer.tell_answer.Goals as goal
 
 pub returns-in-Ok-clause-done : goal.returns-in-Ok-clause-done
-returns-in-Ok-clause-done g c before step served =
+returns-in-Ok-clause-done g c before step served few =
     let s = subst (λ r. Serves before step r c.args.self.now.core) c.in-Ok.is served in
     let told = c.tell_entry.ensures in
     rw told.same.0 (made_done c.args.self.now.kinds.0 before c.args.self.now.core step _ _ c.tell_entry.result s.0.0 s.1
-    told.told)
+    few told.told)
 
 pub returns-in-Ok-clause-stopped : goal.returns-in-Ok-clause-stopped
-returns-in-Ok-clause-stopped g c before step served =
+returns-in-Ok-clause-stopped g c before step served few =
     let s = subst (λ r. Serves before step r c.args.self.now.core) c.in-Ok.is served in
     made_stopped c.args.self.now.kinds.0 before c.args.self.now.core step _ _ c.tell_entry.result s.0.0 s.1
-    c.tell_entry.ensures.stopped
+    few c.tell_entry.ensures.stopped
 
 pub returns-clause-done : goal.returns-clause-done
-returns-clause-done g c before step served =
+returns-clause-done g c before step served few =
     let s = subst (λ r. Serves before step r c.args.self.now.core) c.in-Err.is served in
     let is = c.why_of.ensures ∙ ap why_of s.0 ∙ why_refused step _ in
     let told = c.tell_refusal.ensures in
@@ -26,7 +26,7 @@ returns-clause-done g c before step served =
     c.tell_refusal.result s.1 told.told told.other)
 
 pub returns-clause-stopped : goal.returns-clause-stopped
-returns-clause-stopped g c before step served =
+returns-clause-stopped g c before step served few =
     let s = subst (λ r. Serves before step r c.args.self.now.core) c.in-Err.is served in
     let is = c.why_of.ensures ∙ ap why_of s.0 ∙ why_refused step _ in
     let told = c.tell_refusal.ensures in

@@ -91,8 +91,8 @@ returns c =
     (sym (c.self.view_is ∙ c.take_room.ensures.same))
     c.in_ok-front.ensures.value in
     record {
-      does = fetch_done _ _ _ c.self.invariant.0 _ _ a _ _ _ _ _ _ _ _ _ (c.self.view_is ∙ c.take_room.ensures.same)
-          c.verdict.ensures.value
+      does = fetch_done _ _ _ c.self.invariant.0 _ _ a _ _ _ _ _ _ _ _ _ _ _ (c.self.view_is ∙ c.take_room.ensures.same)
+          (c.push_reserved.ensures.forgotten ∙ c.keep_room.ensures.forgotten) c.verdict.ensures.value
           c.keep_room.ensures.past c.push_reserved.ensures.past c.units-units.ensures c.new.ensures
           (record {
             entries = omega (arith, c.keep_room.ensures.kept, c.push_reserved.ensures.room);

@@ -52,8 +52,9 @@ returns c =
       does = block_does _ _ _ c.self.invariant.0 c.args.ticket b.0 c.unwrap-job.result.now job c.args.unit b.1
           c.make_block-done.result c.make_block-done.new.volume c.make_block-done.new.self
           (record { done = made.done; volume = made.volume; job = made.job })
-          c.args.self.now c.self.inside.promised c.take_room.new.promised _ _
+          c.args.self.now c.self.inside.promised c.take_room.new.promised _ _ _ _
           c.take_room.new.history.past c.push_reserved.new.self.past c.self.view_is
+          (c.push_reserved.ensures.forgotten ∙ c.take_room.ensures.forgotten)
           c.take_room.ensures.past c.push_reserved.ensures.past c.in_ok-take_room.ensures.ok.0
           (record {
             entries = omega (arith, c.take_room.ensures.kept, c.push_reserved.ensures.room);

@@ -113,8 +113,9 @@ returns c =
     let more = one_more _ _ _ _ c.keep_room.ensures.past c.push_reserved.ensures.past in
     let adds = post_entry_is _ _ _ c.self.invariant.0 c.args.due post _ (c.new.ensures ∙ copied ∙ taken) in
     record {
-      does = does_accepted _ _ (Step.Post c.args.due.ticket) _ _ _ _ _ c.self.view_is post.0 adds
-          (ap (answer_of c.self.inside.config c.self.inside.history.past) adds) more refl
+      does = does_accepted _ _ (Step.Post c.args.due.ticket) _ _ _ _ _ _ c.self.view_is post.0 adds
+          (ap (answer_of c.self.inside.config c.self.inside.history.past) adds) more
+          (c.push_reserved.ensures.forgotten ∙ c.keep_room.ensures.forgotten) refl
           (record {
             entries = omega (arith, c.keep_room.ensures.kept, c.push_reserved.ensures.room);
             ranges = omega arith;

@@ -1,4 +1,4 @@
-use Rattle.std.proofs.Common.{arith}
+use Rattle.std.proofs.Common.{◌∙◌, arith}
 use Rattle.nvme_model.specs.declared.step.Step.{Step}
 use Rattle.step_core.proofs.Accepted.{accepted, does_accepted, ok_unless, one_more}
 use Rattle.step_core.proofs.Reaping.{reap_adds, reap_answers, reap_keeps, reap_waiting}
@@ -33,8 +33,8 @@ returns c =
     c.unwrap-completion.result (rw c.unwrap-completion.ensures at c.reap.ensures.ok) in
     let more = one_more _ _ _ _ c.take_room.ensures.past c.push_reserved.ensures.past in
     record {
-      does = does_accepted _ _ (Step.Reap c.args.queue) _ _ _ _ _ c.self.view_is none adds answers more
-          c.in_ok-take_room.ensures.ok.0
+      does = does_accepted _ _ (Step.Reap c.args.queue) _ _ _ _ _ _ c.self.view_is none adds answers more
+          (c.push_reserved.ensures.forgotten ∙ c.take_room.ensures.forgotten) c.in_ok-take_room.ensures.ok.0
           (record {
             entries = omega (arith, c.take_room.ensures.kept, c.push_reserved.ensures.room);
             ranges = omega arith;

@@ -1,0 +1,24 @@
+use Rattle.std.proofs.Common.{Option, Some, subst, sym, ◌≡◌}
+use Rattle.c_handles.specs.Disks.{ForgetTells}
+use Rattle.c_handles.specs.Handles.{disk_in}
+use Rattle.c_handles.specs.Owned.{Keeps}
+use Rattle.c_handles.specs.declared.disk.Disk.{Disk as TheDisk}
+use Rattle.vandrexu_c.proofs.disk_calls.vandrexu_disk_forget.Goals as goal
+
+pub returns-clause-forgets : goal.returns-clause-forgets
+returns-clause-forgets c d h =
+    let was = c.in-Some.ensures.value in
+    let lent = c.as_mut.ensures.value in
+    let back = c.as_mut.ensures.writes_back in
+    let put = c.put.ensures in
+    let begins : c.as_mut.result.now ≡ d = cc in
+    let ends : disk_in c.put.new.self ≡ Some c.forget-told.new.self = cc in
+    subst (λ (o : Option TheDisk). Keeps o (λ (e : TheDisk). ForgetTells d e c.forget-told.result)) (sym ends)
+    (subst (λ (x : TheDisk). ForgetTells x c.forget-told.new.self c.forget-told.result) begins
+    (record {
+      same = c.forget-told.ensures.same;
+      work = c.forget-told.ensures.work;
+      knows = c.forget-told.ensures.knows;
+      mine = c.forget-told.ensures.mine;
+      told = c.forget-told.ensures.told;
+    }))

@@ -1,0 +1,21 @@
+use Rattle.std.proofs.Common.{Option, Some, subst, sym, ◌≡◌}
+use Rattle.c_handles.specs.Handles.{disk_in}
+use Rattle.c_handles.specs.Owned.{Keeps}
+use Rattle.c_handles.specs.declared.disk.Disk.{Disk as TheDisk}
+use Rattle.vandrexu_c.specs.DiskLooks.{TellsLines}
+use Rattle.vandrexu_c.proofs.disk_looks.vandrexu_disk_history.Goals as goal
+
+pub returns-clause-tells : goal.returns-clause-tells
+returns-clause-tells c d h =
+    let was = c.in-Some.ensures.value in
+    let lent = c.as_mut.ensures.value in
+    let back = c.as_mut.ensures.writes_back in
+    let put = c.put.ensures in
+    let begins : c.as_mut.result.now ≡ d = cc in
+    let ends : disk_in c.put.new.self ≡ Some c.copy_lines-told.new.disk = cc in
+    subst (λ (o : Option TheDisk). Keeps o (λ (e : TheDisk). TellsLines d e c.args.from c.args.out.now
+    c.copy_lines-told.new.out c.copy_lines-told.result c.copy_lines-told.new.needed c.copy_lines-told.new.next))
+    (sym ends)
+    (subst (λ (x : TheDisk). TellsLines x c.copy_lines-told.new.disk c.args.from c.args.out.now
+    c.copy_lines-told.new.out c.copy_lines-told.result c.copy_lines-told.new.needed c.copy_lines-told.new.next) begins
+    c.copy_lines-told.ensures.tells)
