@@ -29,20 +29,8 @@ struct run {
 };
 
 #ifdef REFUSES
-#include "refusing.h"
+#include "refused_runs.h"
 
-static long refusals;
-
-/* Each call is asked again where memory was refused, which no call does twice. */
-#define TRY(call)                                                                                                      \
-    do {                                                                                                               \
-        uint32_t first_answer = (call);                                                                                \
-        if (first_answer == VANDREXU_NO_MEMORY || first_answer == VANDREXU_CALL_NO_MEMORY) {                           \
-            refusals++;                                                                                                \
-            first_answer = (call);                                                                                     \
-        }                                                                                                              \
-        WANT(first_answer == VANDREXU_DONE);                                                                           \
-    } while (0)
 #else
 #define TRY(call) WANT((call) == VANDREXU_DONE)
 #endif
@@ -464,17 +452,6 @@ static void run_refused(long at)
 
 int main(void)
 {
-    long all, refused = 0;
-    run_refused(0);
-    WANT(refusals == 0);
-    all = allocations;
-    for (long at = 1; at <= all; at++) {
-        refusals = 0;
-        run_refused(at);
-        refused += refusals;
-    }
-    printf("allocations of judging: %ld, refused and told: %ld\n", all, refused);
-    WANT(all > 100 && refused == all);
-    return 0;
+    return refuse_each(run_refused, "judging", 100);
 }
 #endif

@@ -609,23 +609,7 @@ int main(void)
     return 0;
 }
 #else
-#include "refusing.h"
-
-static int refusals;
-
-static int is_refusal(uint32_t answer)
-{
-    int is = answer == VANDREXU_NO_MEMORY || answer == VANDREXU_CALL_NO_MEMORY;
-    refusals += is;
-    return is;
-}
-
-/* Each call is asked again where memory was refused, which no call does twice. */
-#define TRY(call)                                                                                                      \
-    do {                                                                                                               \
-        if (is_refusal(call))                                                                                          \
-            WANT((call) == VANDREXU_DONE);                                                                             \
-    } while (0)
+#include "refused_runs.h"
 
 static void poll(vandrexu_disk *disk, uint16_t queue, vandrexu_slot_host *host, uint32_t kind)
 {
@@ -677,17 +661,6 @@ static void run_refused(long at)
 
 int main(void)
 {
-    long all, refused = 0;
-    run_refused(0);
-    WANT(refusals == 0);
-    all = allocations;
-    for (long at = 1; at <= all; at++) {
-        refusals = 0;
-        run_refused(at);
-        refused += refusals;
-    }
-    printf("allocations: %ld, refused and told: %ld\n", all, refused);
-    WANT(all > 10 && refused == all);
-    return 0;
+    return refuse_each(run_refused, "slots", 10);
 }
 #endif

@@ -60,6 +60,19 @@ static void publish(vandrexu_controller *disk, int at, uint64_t block, int write
     MADE(disk, vandrexu_controller_publish(disk, 1, &entry, 1, data, entry.count));
 }
 
+/* Whether a Write is refused for memory, and nothing of it is there. */
+static int refuses(vandrexu_controller *disk)
+{
+    vandrexu_entry entry = {{1, 0, 7, 0, 1}, 512};
+    uint8_t data[512] = {0};
+    uint64_t before, after;
+    size_t used = vandrexu_heap_used();
+    WANT(vandrexu_controller_history_count(disk, &before) == VANDREXU_DONE);
+    WANT(vandrexu_controller_publish(disk, 1, &entry, 1, data, 512) == VANDREXU_NO_MEMORY);
+    WANT(vandrexu_controller_history_count(disk, &after) == VANDREXU_DONE);
+    return before == after && used == vandrexu_heap_used();
+}
+
 /* Takes one completion, which is of a CID that waits, and looks at what it read. */
 static void reap(vandrexu_controller *disk, uint8_t *waits, const int *reads)
 {
@@ -115,6 +128,12 @@ int main(int count, char **words)
     for (uint64_t number = 0; number < 2000 || time(NULL) < end; number++)
         round_of(&disk, number);
     WANT(refused > 0);
+    /* below what is held nothing is given, and what is held stays */
+    vandrexu_heap_limit(0);
+    WANT(refuses(&disk));
+    vandrexu_heap_limit(SIZE_MAX);
+    limit = SIZE_MAX - 4096;
+    round_of(&disk, 1);
     WANT(vandrexu_controller_history_count(&disk, &steps) == VANDREXU_DONE);
     /* (a command of one block has a Publish, a Fetch, a Grant, a Block, a Post and a Reap) */
     WANT(steps == 6 * commands);
