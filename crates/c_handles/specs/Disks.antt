@@ -17,7 +17,7 @@ use Rattle.meet_lock.specs.Passes.{Declines, IsSame, Knows, Worked, mine, seen}
 use Rattle.meet_lock.specs.declared.pass.Declined.{Declined}
 use Rattle.ticket_laws.specs.Tasks.{own_done, task_fault}
 use Rattle.work_queue.specs.Duties.{duty_of, task_step}
-use Rattle.work_queue.specs.Engines.{EnginePass, FetchedAs, IsFreshPass, its, opening_of}
+use Rattle.work_queue.specs.Engines.{EnginePass, FetchedAs, ForgotAt, IsFreshPass, its, opening_of}
 use Rattle.work_queue.specs.declared.engine.Engine.{Engine}
 use Rattle.work_queue.specs.declared.task.Task.{Task}
 use Rattle.work_queue.specs.declared.work.Work.{Work}
@@ -138,14 +138,14 @@ pub record TaskTells (d e : Disk) (number : ℕ) : Type 0 where
   pub same : IsSameDisk d e
   pub makes : (w : Work) → d.work ≡ Some w → IsFinished d e w number ⊎ MakesTask d e w number
 
--- The controller forgets what stands at the beginning of its history, which stays the same; or another caller had the
--- lock.
-pub record ForgetTells (d e : Disk) (number : ℕ) : Type 0 where
+-- The controller forgets what stands before this place, from 0, of its history, which stays the same; or another caller
+-- had the lock.
+pub record ForgetTells (d : Disk) (place : ℕ) (e : Disk) (number : ℕ) : Type 0 where
   pub same : IsSameDisk d e
   pub work : e.work ≡ d.work
   pub knows : Knows ControllerInvariant d.server e.server
   pub mine : mine e.server ≡ mine d.server
-  pub told : (number ≡ 0) ⊎ ((number ≡ 12) × (seen e.server ≡ seen d.server))
+  pub told : ((number ≡ 0) × ForgotAt place e.server) ⊎ ((number ≡ 12) × (seen e.server ≡ seen d.server))
 
 -- so many tasks of what is kept, each of them made, lead from one disk to the other
 abbrev pub Works : ℕ → Disk → Disk → Type 0

@@ -175,7 +175,7 @@ impl Disk {
 
     /// The controller forgets the entries of its history before this place, from 0.
     pub fn forget(&mut self, place: usize) -> u32
-        ensures { ForgetTells self.old self.new result }
+        ensures { ForgetTells self.old place self.new result }
     {
         match self.engine.forget(&mut self.server, place) {
             Ok(()) => 0,

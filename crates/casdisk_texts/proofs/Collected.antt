@@ -10,6 +10,7 @@ use Rattle.std.proofs.KnownBytes.{Appends-nil, Keeps-refl}
 use Rattle.std.proofs.lemmas.Bool.{le-ltb, lt-ltb}
 use Rattle.std.proofs.lemmas.List.{reverse-append, reverse-reverse}
 use Rattle.line_text.specs.Lines.{rest_line, whole_lines}
+use Rattle.nvme_model.specs.Bits.{bit}
 use Rattle.nvme_model.specs.Config.{config_fault}
 use Rattle.nvme_model.specs.History.{Past}
 use Rattle.nvme_model.specs.declared.config.ConfigFault.{ConfigFault}
@@ -30,7 +31,7 @@ use Rattle.casdisk_texts.specs.Running.{Makes, Reached, RunsScript}
 use Rattle.casdisk_texts.specs.Script.{Outcome, after_config, after_line, after_numbers, bad_config}
 use Rattle.casdisk_texts.specs.Script.{bad_line}
 use Rattle.casdisk_texts.specs.Script.{cut, done, first_config, lines_print, script_outcome, script_prints}
-use Rattle.casdisk_texts.specs.Traces.{HasCollected, HasTrace, IsTraceUnread, TakesOption, bit}
+use Rattle.casdisk_texts.specs.Traces.{HasCollected, HasTrace, IsTraceUnread, TakesOption}
 use Rattle.casdisk_texts.specs.Traces.{config_after, has_room}
 use Rattle.casdisk_texts.specs.Traces.{kept_as, kept_by, kept_option, line_kept, may_stand, option_kept_as}
 use Rattle.casdisk_texts.specs.Traces.{options_kept, rank_kept, things_in, things_kept}

@@ -3,6 +3,7 @@ use Rattle.std.specs.Prelude.{◌≡◌, ◌⊎◌, ℕ, ◌==◌, ◌&&◌, ◌
 use Rattle.std.specs.Prelude.{◌∷◌, drop, get_or, option_map, reverse, Option, Some, None, IfSome}
 use Rattle.std.specs.Io.KnownBytes.{Consumes}
 use Rattle.line_text.specs.Lines.{whole_lines}
+use Rattle.nvme_model.specs.Bits.{bit}
 use Rattle.nvme_model.specs.Config.{is_accepted}
 use Rattle.nvme_model.specs.History.{Past}
 use Rattle.nvme_model.specs.declared.config.ConfigNumbers.{ConfigNumbers}
@@ -48,11 +49,6 @@ abbrev pub options_of : List ℕ → TraceOptions
 options_of input = options_after no_options (drop 1 (whole_lines input))
 
 -- ---- what the lines so far keep, as entries
-
--- a field that is ignored, as a number
-abbrev pub bit : Bool → ℕ
-bit true = 1
-bit false = 0
 
 -- an option, kept as a Reap whose queue is its rank
 abbrev pub option_kept_as : TraceOption → Entry

@@ -7,7 +7,8 @@ use Rattle.nvme_model.specs.Queues.{fetched_count}
 use Rattle.nvme_model.specs.Tickets.{cids, posts_of, ticket}
 use Rattle.nvme_model.specs.declared.config.ConfigNumbers.{ConfigNumbers}
 use Rattle.nvme_model.specs.declared.status.Status.{Status}
-use Rattle.entry_codec.specs.Cqe.{completion_bytes, phase_bit}
+use Rattle.nvme_model.specs.Bits.{bit}
+use Rattle.entry_codec.specs.Cqe.{completion_bytes}
 use Rattle.entry_codec.specs.declared.cqe.Cqe.{Cqe}
 
 -- an entry with the fields of ticket t's next completion has its bytes
@@ -15,7 +16,7 @@ pub completion_bytes-completion : (c : ConfigNumbers) (past : Past) (t : ℕ) (s
     cqe.sqhd ≡ fetched_count past (ticket past t).queue % c.sq_size →
     cqe.sqid ≡ (ticket past t).queue →
     cqe.cid ≡ get_or (cids (ticket past t)) (posts_of past t) 0 →
-    phase_bit cqe.phase ≡ phase (length (posted_completions c past (completion_queue c (ticket past t).queue)))
+    bit cqe.phase ≡ phase (length (posted_completions c past (completion_queue c (ticket past t).queue)))
     c.cq_size →
     cqe.status ≡ status →
     completion_bytes cqe ≡ completion c past t status

@@ -1,6 +1,6 @@
 //! A machine takes steps, and keeps the history of those that it accepted.
 
-ghost use Rattle.std.specs.Prelude.{◌≡◌, ℕ, ◌<◌, ◌⊎◌, true, [], ◌∷◌, IfOk, IfErr};
+ghost use Rattle.std.specs.Prelude.{◌≡◌, ℕ, ◌<◌, ◌⊎◌, true, [], ◌∷◌, IfOk, IfErr, length, max, min};
 ghost use Rattle.nvme_model.specs.History.{Past};
 ghost use Rattle.nvme_model.specs.Legal.{IsLegal};
 ghost use Rattle.nvme_model.specs.declared.config.ConfigNumbers.{ConfigNumbers};
@@ -20,6 +20,9 @@ pub trait Machine: Drop {
 
     /// The entries of its accepted steps, the newest first.
     ghost history: { Self → Past };
+
+    /// How many of these it has forgotten, the oldest.
+    ghost forgotten: { Self → ℕ };
 
     /// What it keeps of its history; that the history is legal is part of it.
     ghost legal: { ConfigNumbers → Past → Type 0 };
@@ -46,7 +49,8 @@ pub trait Machine: Drop {
     /// the same.
     fn forget(&mut self, place: usize)
         ensures config { config self.new ≡ config self.old }
-        ensures history { history self.new ≡ history self.old };
+        ensures history { history self.new ≡ history self.old }
+        ensures forgotten { forgotten self.new ≡ max (forgotten self.old) (min place (length (history self.old))) };
 
     /// What the machine keeps of its history gives that this is legal.
     ghost is_legal: { (c : ConfigNumbers) (past : Past) → legal c past → IsLegal c past };

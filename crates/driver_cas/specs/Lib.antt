@@ -14,3 +14,4 @@ pub mod Tries
 pub mod Requests
 pub mod SlotStarts
 pub mod TakeoverStarts
+pub mod Driving

@@ -2,6 +2,7 @@
 //! Its port to a shared controller borrows it, or has a part of it.
 #![tactic(auto)]
 
+mod attend;
 mod call;
 mod calls;
 mod cid_table;
@@ -20,6 +21,7 @@ mod start;
 mod table;
 mod takeovers;
 
+pub use crate::attend::Attendance;
 pub use crate::call::{Call, Poll};
 pub use crate::cid_table::{CidTable, TwoCids};
 pub use crate::driver::Driver;

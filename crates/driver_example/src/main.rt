@@ -1,4 +1,5 @@
-//! The program of docs/DRIVER.md: a Write, and then a Compare and Write of its block, served on the same thread.
+//! The program of docs/DRIVER.md: a Write, and then a Compare and Write of its block, served on the same thread. Then
+//! two hosts that own their ports, for programs that can't borrow an engine.
 #![tactic(auto)]
 
 ghost use Rattle.std.specs.Prelude.{IfSome, ◌≡◌};
@@ -7,6 +8,8 @@ ghost use Rattle.driver_cas.specs.declared.shared_port.SharedPort.{SharedPort};
 ghost use Rattle.driver_example.specs.Hosts.{IsQueueHost};
 ghost use Rattle.history.specs.Config.{config_numbers};
 ghost use Rattle.shared_system.specs.Callers.{AreCallersOf, IsHostOf, IsWorkerOf};
+
+mod owned;
 
 use driver_cas::{Call, Driver, Poll, Reply, SharedPort};
 use history::Config;
@@ -137,8 +140,8 @@ fn runs<R: AllocGlobal + Print + Wait>(rt: &R) -> Option<()> {
 }
 
 fn main(rt: HostRuntime) -> ExitCode {
-    match runs(&rt) {
-        Some(()) => ExitCode::SUCCESS,
-        None => ExitCode::FAILURE,
+    match (runs(&rt), owned::runs(&rt)) {
+        (Some(()), Some(())) => ExitCode::SUCCESS,
+        (None, _) | (_, None) => ExitCode::FAILURE,
     }
 }

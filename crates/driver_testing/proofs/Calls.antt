@@ -5,6 +5,7 @@ use Rattle.std.specs.Prelude.{IfOk, IfSome}
 use Rattle.nvme_model.specs.declared.operation.Op.{Op}
 use Rattle.driver_calls.specs.declared.request.CallData.{CallData}
 use Rattle.driver_calls.specs.declared.request.Request.{Request}
+use Rattle.driver_cas.specs.Driving.{call_given_back}
 use Rattle.driver_cas.specs.Drivers.{SharesNoCid, IsBack, IsCallBack, IsCallOf, IsSameDriver, area_of}
 use Rattle.driver_cas.specs.Requests.{IsStart, pair_request_of, request_of}
 use Rattle.driver_cas.specs.declared.call.Call.{Call}
@@ -13,7 +14,7 @@ use Rattle.driver_cas.specs.declared.driver.Driver.{Driver}
 use Rattle.driver_cas.specs.declared.fault.Fault.{Fault}
 use Rattle.driver_cas.specs.declared.port.Port.{Ghosts}
 use Rattle.driver_cas.specs.declared.shared_port.SharedPort.{SharedPort}
-use Rattle.driver_testing.specs.Calls.{IsCallAsked, IsNewCall, Polls, given_back}
+use Rattle.driver_testing.specs.Calls.{IsCallAsked, IsNewCall, Polls}
 use Rattle.driver_testing.specs.declared.host.TestHost.{TestHost}
 use Rattle.slot_alloc.specs.SlotRules.{DriverContinues, KeepsSlotRules}
 
@@ -88,12 +89,12 @@ module _ {P : Type 0} {g : Ghosts P} where
   new_call d e (Ok k) h = (h.0, λ j of. (h.1 j of).1)
   new_call d e (Err f) h = tt
 
-  pub back_of : (e : Driver P g) (k : Call P) (r : Poll P) (o : Option (Call P)) → o ≡ given_back r → IsBack k r
+  pub back_of : (e : Driver P g) (k : Call P) (r : Poll P) (o : Option (Call P)) → o ≡ call_given_back r → IsBack k r
       → IsCallBack e r → IfSome o (λ j. (j ≡ k) × IsCallOf e j)
   back_of e k r o is back of =
       subst (λ (x : Option (Call P)). IfSome x (λ j. (j ≡ k) × IsCallOf e j)) (sym is) (go r back of)
     where
-      go : (r : Poll P) → IsBack k r → IsCallBack e r → IfSome (given_back r) (λ j. (j ≡ k) × IsCallOf e j)
+      go : (r : Poll P) → IsBack k r → IsCallBack e r → IfSome (call_given_back r) (λ j. (j ≡ k) × IsCallOf e j)
       go (Poll.Pending j) back of = (back, of)
       go (Poll.Later f j) back of = (back.0, of)
       go (Poll.Done r) back of = tt

@@ -1,12 +1,11 @@
 -- What becomes of a host's calls.
-use Rattle.std.specs.Prelude.{IfOk, None, Option, Result, Some, ℕ, ◌≡◌, ◌⊎◌}
+use Rattle.std.specs.Prelude.{IfOk, Result, ℕ, ◌≡◌, ◌⊎◌}
 use Rattle.nvme_model.specs.declared.operation.Op.{Op}
 use Rattle.driver_calls.specs.declared.request.CallData.{CallData}
 use Rattle.driver_cas.specs.Drivers.{SharesNoCid, IsCallOf, area_of, port_of}
 use Rattle.driver_cas.specs.Listening.{IsOfSameEngine}
 use Rattle.driver_cas.specs.Requests.{IsStart, pair_request_of, request_of}
 use Rattle.driver_cas.specs.declared.call.Call.{Call}
-use Rattle.driver_cas.specs.declared.call.Poll.{Poll}
 use Rattle.driver_cas.specs.declared.driver.Driver.{Driver}
 use Rattle.driver_cas.specs.declared.fault.Fault.{Fault}
 use Rattle.driver_cas.specs.declared.port.Port.{Ghosts}
@@ -48,9 +47,3 @@ pub record Begins (h i : TestHost) (r : Result (Call SharedPort) Fault) : Type 0
 pub record Polls (h i : TestHost) (k : Call SharedPort) : Type 0 where
   pub same : IsSameHost h i
   pub others : (j : Call SharedPort) → IsCallOf h.driver j → SharesNoCid k j → IsCallOf i.driver j
-
--- the call, where a poll gives it back
-abbrev pub given_back : {P : Type 0} → Poll P → Option (Call P)
-given_back (Poll.Pending k) = Some k
-given_back (Poll.Later f k) = Some k
-given_back _ = None

@@ -2,10 +2,11 @@
 
 ghost use Rattle.std.specs.Prelude.{◌≡◌, IfOk, IfSome};
 ghost use Rattle.driver_cas.specs.Drivers.{SharesNoCid, IsCallOf, IsSameDriver, port_of};
+ghost use Rattle.driver_cas.specs.Driving.{call_given_back};
 ghost use Rattle.driver_cas.specs.Starts.{IsUntouched};
 ghost use Rattle.driver_cas.specs.declared.call.Call.{Call};
 ghost use Rattle.driver_testing.specs.Hosts.{IsTestHost};
-ghost use Rattle.driver_testing.specs.Calls.{Begins, IsCallAsked, IsNewCall, KeepsCalls, Polls, StayCalls, given_back};
+ghost use Rattle.driver_testing.specs.Calls.{Begins, IsCallAsked, IsNewCall, KeepsCalls, Polls, StayCalls};
 ghost use Rattle.slot_alloc.specs.SlotRules.{KeepsSlotRules};
 
 use crate::host::TestHost;
@@ -85,7 +86,7 @@ fn fault_in_words(fault: Fault) -> AnswerWords {
 
 // A poll in words, and the call where it comes back.
 fn poll_in_words<P>(poll: Poll<P>) -> (AnswerWords, Option<Call<P>>)
-    ensures { result.1 ≡ given_back poll }
+    ensures { result.1 ≡ call_given_back poll }
 {
     match poll {
         Poll::Done(reply) => (in_words(&reply), None),

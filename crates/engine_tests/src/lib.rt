@@ -2,7 +2,7 @@
 //! and carry is tested in `queue_tests`, apart since the check of each takes minutes.
 //!
 //! - `rows`: worked runs by passes of a lock, and by works and notices on one thread.
-//! - `forgets`: a controller that forgets under its lock.
+//! - `forgets`: a controller that forgets under its lock, and what a look at it is told.
 //! - `threads`: four threads write through one lock, and the history has what each was told.
 #![tactic(auto)]
 

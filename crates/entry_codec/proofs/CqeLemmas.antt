@@ -7,7 +7,9 @@ use Rattle.nvme_model.specs.Codes.{StatusCode}
 use Rattle.nvme_model.specs.EntryBytes.{Cqe, cqe_bytes, cqe_fields, field}
 use Rattle.entry_codec.specs.declared.cqe.Cqe.{Cqe as Completion}
 use Rattle.entry_codec.specs.Bytes.{IsBytes}
-use Rattle.entry_codec.specs.Cqe.{completion_fields, phase_bit}
+use Rattle.nvme_model.specs.Bits.{bit}
+use Rattle.entry_codec.specs.Cqe.{completion_fields}
+use Rattle.entry_codec.proofs.Phases.{same_bit}
 use Rattle.entry_codec.proofs.LittleLemmas.{little_bytes-field-append, little_endian-bytes}
 
 -- completions with the same fields are the same
@@ -87,17 +89,10 @@ cqe_bytes-fields sqhd sqid cid phase status bytes long each same =
     let at0 = little_bytes-field-append 0 4 bytes _ (omega arith) each at4 in
     sym (rw (dw0, dw1, head, queue, command, word) at at0)
 
--- the phase tag by its bit
-phase_bit-injective : (p q : Bool) → phase_bit p ≡ phase_bit q → p ≡ q
-phase_bit-injective true true same = refl
-phase_bit-injective false false same = refl
-phase_bit-injective true false same = absurd (omega arith)
-phase_bit-injective false true same = absurd (omega arith)
-
--- the phase tag's bit is a bit
-pub phase_bit-lt : (p : Bool) → phase_bit p < 2
-phase_bit-lt true = omega arith
-phase_bit-lt false = omega arith
+-- a bit is below 2
+pub bit-lt : (p : Bool) → bit p < 2
+bit-lt true = omega arith
+bit-lt false = omega arith
 
 -- completions whose bytes have the same fields are the same
 pub completion_fields-injective : (c d : Completion) → completion_fields c ≡ completion_fields d → c ≡ d
@@ -105,7 +100,7 @@ completion_fields-injective c d same =
     let sqhd : c.sqhd ≡ d.sqhd = ap (λ (e : Cqe). e.sqhd) same in
     let sqid : c.sqid ≡ d.sqid = ap (λ (e : Cqe). e.sqid) same in
     let cid : c.cid ≡ d.cid = ap (λ (e : Cqe). e.cid) same in
-    let phase : c.phase ≡ d.phase = phase_bit-injective c.phase d.phase (ap (λ (e : Cqe). e.phase) same) in
+    let phase : c.phase ≡ d.phase = same_bit c.phase d.phase (ap (λ (e : Cqe). e.phase) same) in
     let sc : c.status.sc ≡ d.status.sc = ap (λ (e : Cqe). e.sc) same in
     let sct : c.status.sct ≡ d.status.sct = ap (λ (e : Cqe). e.sct) same in
     rw (sqhd, sqid, cid, phase, sc, sct) refl

@@ -1,4 +1,4 @@
 pub mod LittleLemmas
 pub mod SqeLemmas
-pub mod CqeLemmas
 pub mod Phases
+pub mod CqeLemmas

@@ -1,9 +1,9 @@
 -- Phase tags as bits.
 use Rattle.std.proofs.Common.{Bool, arith, false, refl, true, ◌≡◌}
-use Rattle.entry_codec.specs.Cqe.{phase_bit}
+use Rattle.nvme_model.specs.Bits.{bit}
 
 -- bits that are equal are of one phase tag
-pub same_bit : (a b : Bool) → phase_bit a ≡ phase_bit b → a ≡ b
+pub same_bit : (a b : Bool) → bit a ≡ bit b → a ≡ b
 same_bit true true e = refl
 same_bit false false e = refl
 same_bit true false e = absurd (omega (arith, e))

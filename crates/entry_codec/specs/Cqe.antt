@@ -1,13 +1,10 @@
 -- The 16 bytes of a completion queue entry.
-use Rattle.std.specs.Prelude.{Bool, List, if◌then◌else◌, ℕ, ◌+◌, ◌<◌, ◌^◌}
+use Rattle.std.specs.Prelude.{List, ℕ, ◌+◌, ◌<◌, ◌^◌}
+use Rattle.nvme_model.specs.Bits.{bit}
 use Rattle.nvme_model.specs.EntryBytes.{Cqe as CqeFields, cqe_bytes}
 use Rattle.entry_codec.specs.declared.cqe.Cqe.{Cqe}
 use Rattle.entry_codec.specs.declared.cqe.CqeFault.{CqeFault}
 use Rattle.entry_codec.specs.declared.cqe.CqeFault.TheVariants.{ReservedNotZero}
-
--- the phase tag as a bit
-abbrev pub phase_bit : Bool → ℕ
-phase_bit phase = if phase then 1 else 0
 
 -- each field of a completion's bytes (Base 2.0, Completion Queue Entry): DW0, DW1, CRD, More and DNR are zero
 abbrev pub completion_fields : Cqe → CqeFields
@@ -18,7 +15,7 @@ completion_fields c =
       sqhd = c.sqhd;
       sqid = c.sqid;
       cid = c.cid;
-      phase = phase_bit c.phase;
+      phase = bit c.phase;
       sc = c.status.sc;
       sct = c.status.sct;
       crd = 0;
@@ -28,7 +25,7 @@ completion_fields c =
 
 -- the 16 bytes of a completion
 abbrev pub completion_bytes : Cqe → List ℕ
-completion_bytes c = cqe_bytes c.sqhd c.sqid c.cid (phase_bit c.phase) c.status
+completion_bytes c = cqe_bytes c.sqhd c.sqid c.cid (bit c.phase) c.status
 
 -- a field that every completion leaves zero isn't
 abbrev pub SetsReserved : CqeFields → Type 0

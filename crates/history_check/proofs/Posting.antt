@@ -14,7 +14,7 @@ use Rattle.rings.proofs.CidCounts.{count_append, count_cons, is_among, one_less,
 use Rattle.history_check.specs.Judged.{flies, in_use, judged, checked_owed, owes_nothing, post_fits_by}
 use Rattle.history_check.specs.Tables.{CheckedTicket, flight, tables}
 use Rattle.history_check.specs.Taken.{flies_on, posted_flight, tables_after}
-use Rattle.entry_codec.specs.Cqe.{phase_bit}
+use Rattle.nvme_model.specs.Bits.{bit}
 use Rattle.nvme_model.specs.Config.{completion_queue}
 use Rattle.nvme_model.specs.History.{Past}
 use Rattle.nvme_model.specs.Operations.{units}
@@ -142,19 +142,19 @@ module _ (c : ConfigNumbers) (past : Past) (k : CheckerState) (keeps : IsChecker
           ∙ ap (λ n. n == c.cq_size - 1)
           (length-map ((tables c past).unreaped (completion_queue c (flight past p.ticket).ticket.queue)) bare)
 
-      fits_is : post_fits_at sr.head (phase_bit cr.phase) x.flight p
+      fits_is : post_fits_at sr.head (bit cr.phase) x.flight p
           (slice_get (checked_owed c x.flight) x.flight.posts)
           ≡ post_fits_by c (tables c past) p
           (slice_get (checked_owed c (flight past p.ticket)) (flight past p.ticket).posts)
       fits_is =
-          (λ z. post_fits_at (sq_is z).head (phase_bit (cq_is z).phase) (flight_is z) p
+          (λ z. post_fits_at (sq_is z).head (bit (cq_is z).phase) (flight_is z) p
           (slice_get (checked_owed c (flight_is z)) (flight_is z).posts))
           ∙ sym (by_rings c (tables c past) p
           (slice_get (checked_owed c (flight past p.ticket)) (flight past p.ticket).posts))
 
       -- it says something else
       pub post_unfit : (after : CheckerState)
-          → post_fits_at sr.head (phase_bit cr.phase) x.flight p (slice_get (checked_owed c x.flight) x.flight.posts)
+          → post_fits_at sr.head (bit cr.phase) x.flight p (slice_get (checked_owed c x.flight) x.flight.posts)
           ≡ false
           → Took c past (Entry.Post p) false after
       post_unfit after e = took_not c past (Entry.Post p) after
@@ -176,7 +176,7 @@ module _ (c : ConfigNumbers) (past : Past) (k : CheckerState) (keeps : IsChecker
           (slice_get (checked_owed c (flight past p.ticket)) (flight past p.ticket).posts)))
 
       module _ (owes : owes_nothing c x.flight ≡ false)
-          (fits : post_fits_at sr.head (phase_bit cr.phase) x.flight p
+          (fits : post_fits_at sr.head (bit cr.phase) x.flight p
           (slice_get (checked_owed c x.flight) x.flight.posts)
           ≡ true) (room : is_full cr ≡ false) (y : CompletionRing)
           (more : y ≡ posted_ring cr (bare p)) (cid : ℕ) (cid_is : cid ≡ get_or (cids x.flight.ticket) x.flight.posts 0)

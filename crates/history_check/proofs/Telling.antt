@@ -15,7 +15,7 @@ use Rattle.history_check.specs.Judged.{conflicts_by, flies, next_by, checked_owe
 use Rattle.rings.specs.Used.{UsedCids}
 use Rattle.history_check.specs.Tables.{CheckedTicket, flight, tables, checked_unit_of}
 use Rattle.history_check.proofs.Within.{right_same}
-use Rattle.entry_codec.specs.Cqe.{phase_bit}
+use Rattle.nvme_model.specs.Bits.{bit}
 use Rattle.fused_match.specs.Judged as matched
 use Rattle.fused_match.specs.Judged.{NamesBlocks, operation_in, waiting_items}
 use Rattle.fused_match.specs.declared.judged.Judged.{Judged}
@@ -257,11 +257,11 @@ module _ (c : ConfigNumbers) (past : Past) (k : CheckerState) (keeps : IsChecker
           (wrong_by c (tables c past) (Entry.Post p)))
 
       pub tell_post : is_full cr ≡ false
-          → post_wrong_at sr.head (phase_bit cr.phase) x.flight p (slice_get (checked_owed c x.flight) x.flight.posts)
+          → post_wrong_at sr.head (bit cr.phase) x.flight p (slice_get (checked_owed c x.flight) x.flight.posts)
           ≡ broken_by c (tables c past) (Entry.Post p)
       tell_post e =
           (λ z. post_wrong_at (Posting.sq_is c past k keeps p i x there sr cr sr_is cr_is z).head
-          (phase_bit (Posting.cq_is c past k keeps p i x there sr cr sr_is cr_is z).phase) (posted_is z) p
+          (bit (Posting.cq_is c past k keeps p i x there sr cr sr_is cr_is z).phase) (posted_is z) p
           (slice_get (checked_owed c (posted_is z)) (posted_is z).posts))
           ∙ (λ z. post_form (sym there.flies z) ((sym owes ∙ ap (owes_nothing c) posted_is) z)
           ((sym e ∙ Posting.full_is c past k keeps p i x there sr cr sr_is cr_is) z)

@@ -1,7 +1,7 @@
 //! What is wrong with a Block or a Post of a ticket in flight.
 
 ghost use Rattle.std.specs.Prelude.{◌≡◌, ◌≤◌, ◌<◌, ◌+◌, ◌^◌, IfOk, IfSome, length, slice_get};
-ghost use Rattle.entry_codec.specs.Cqe.{phase_bit};
+ghost use Rattle.nvme_model.specs.Bits.{bit};
 ghost use Rattle.nvme_model.specs.Operations.{units};
 ghost use Rattle.nvme_model.specs.declared.config.ConfigNumbers.{ConfigNumbers};
 ghost use Rattle.history_check.specs.Judged.{checked_owed};
@@ -53,7 +53,7 @@ impl CheckedTicket {
     pub fn post_wrong(&self, count: u64, head: u16, phase: bool, line: &PostLine) -> Option<Broken>
         ensures value { (c : ConfigNumbers) → count ≡ length (units c self.now.ticket) →
             result ≡
-            post_wrong_at head (phase_bit phase) self.now line.now
+            post_wrong_at head (bit phase) self.now line.now
             (slice_get (checked_owed c self.now) self.now.posts) }
     {
         let (posts, _placed) = self.counts();

@@ -3,7 +3,7 @@
 ghost use Rattle.std.specs.Prelude.{◌≡◌, ◌≤◌, ◌<◌, ◌+◌, ◌++◌, ◌^◌, ◌&&◌, ◌||◌, [], None, Some, IfOk, IfSome, OnErr};
 ghost use Rattle.std.specs.Prelude.{OnOk, if◌then◌else◌, is_some, length, option_copied, option_map, option_to_list};
 ghost use Rattle.std.specs.Prelude.{get_or, slice_get, true};
-ghost use Rattle.entry_codec.specs.Cqe.{phase_bit};
+ghost use Rattle.nvme_model.specs.Bits.{bit};
 ghost use Rattle.nvme_model.specs.EntryBytes.{cqe_bytes};
 ghost use Rattle.nvme_model.specs.Tickets.{cids};
 ghost use Rattle.nvme_model.specs.Open.{is_differs};
@@ -321,7 +321,7 @@ impl CheckedTicket {
     // The bytes of its next completion with this status, by the head and the phase of its queues' rings.
     pub(crate) fn completion(&self, status: Status, head: u16, phase: bool) -> [u8; 16]
         ensures value { result ≡ cqe_bytes head self.now.ticket.queue (get_or (cids self.now.ticket) self.now.posts 0)
-            (phase_bit phase) status }
+            (bit phase) status }
     {
         encode_cqe(&cqe_of(status, self.next_cid(), self.ticket.queue(), head, phase))
     }
@@ -329,7 +329,7 @@ impl CheckedTicket {
     /// Whether a Post says what is owed next, where the ticket has so many units.
     pub fn post_fits(&self, count: u64, head: u16, phase: bool, line: &PostLine) -> bool
         ensures value { (c : ConfigNumbers) → count ≡ length (units c self.now.ticket) → result ≡
-            post_fits_at head (phase_bit phase) self.now line.now (slice_get (checked_owed c self.now) self.now.posts) }
+            post_fits_at head (bit phase) self.now line.now (slice_get (checked_owed c self.now) self.now.posts) }
     {
         let Some(status) = self.owed(count).get(usize::from(self.posts)) else {
             return false;

@@ -1,5 +1,6 @@
 -- What contracts say of passes and of the seats that messages carry.
-use Rattle.std.specs.Prelude.{List, Ok, Option, Err, Result, Some, [], false, length, slice_get, ℕ, ◌+◌, ◌≡◌, ◌∷◌}
+use Rattle.std.specs.Prelude.{List, Ok, Option, Err, Result, Some, [], false, length, max, min, slice_get, ℕ, ◌+◌}
+use Rattle.std.specs.Prelude.{◌≡◌, ◌∷◌}
 use Rattle.atomic_table.specs.Seated.{TableId}
 use Rattle.atomic_table.specs.Table.{Me}
 use Rattle.nvme_model.specs.History.{Past}
@@ -105,6 +106,18 @@ module _ {M : Type 0} where
     pub config_is : config machine ≡ config_of q
     pub history_is : history machine ≡ entries (seen q)
     pub told : tells machine t
+
+  -- A machine that is configured as the pass knows, and whose history is what the pass has seen, forgot its entries
+  -- before this place: before it did so it was the same, but for how many were forgotten.
+  pub record Forgot (config : M → ConfigNumbers) (history : M → Past) (forgotten : M → ℕ) (place : ℕ) (q : Pass M)
+      : Type 0 where
+    pub before : M
+    pub machine : M
+    pub config_is : config machine ≡ config_of q
+    pub history_is : history machine ≡ entries (seen q)
+    pub config_was : config before ≡ config machine
+    pub history_was : history before ≡ history machine
+    pub count : forgotten machine ≡ max (forgotten before) (min place (length (history machine)))
 
   -- Both have seen the same legal history. It begins with what each had seen, and `mine` stays.
   pub record Met (legal : ConfigNumbers → Past → Type 0) (p1 p2 q1 q2 : Pass M) : Type 0 where

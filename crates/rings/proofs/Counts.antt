@@ -8,7 +8,7 @@ use Rattle.std.proofs.lemmas.Grind.{common_steps}
 use Rattle.std.proofs.lemmas.Option.{gets}
 use Rattle.std.proofs.lemmas.List.{drop-append-le, drop-drop, length_push}
 use Rattle.std.proofs.lemmas.Nat.{div-add-mod', div-mul-add, mod_below}
-use Rattle.entry_codec.specs.Cqe.{phase_bit}
+use Rattle.nvme_model.specs.Bits.{bit}
 use Rattle.nvme_model.specs.Completions.{phase}
 use Rattle.nvme_model.specs.declared.submission.Submission.{Submission}
 use Rattle.rings.specs.Completions.{QueueCompletions, CompletionRing, ShowsCompleted, posted_ring}
@@ -57,13 +57,13 @@ abbrev pass_phase : ℕ → ℕ
 pass_phase q = if q % 2 == 0 then 1 else 0
 
 -- it is inverted in the next pass
-pass_phase-next : (q : ℕ) (b : Bool) → phase_bit b ≡ pass_phase q → phase_bit (not b) ≡ pass_phase (q + 1)
+pass_phase-next : (q : ℕ) (b : Bool) → bit b ≡ pass_phase q → bit (not b) ≡ pass_phase (q + 1)
 pass_phase-next q true e = grind (arith, nat_tests, e)
 pass_phase-next q false e = grind (arith, nat_tests, e)
 
 -- the phase after one more: another pass begins where the last slot was filled
-phase_more : (k m : ℕ) (b : Bool) → 0 < m → phase_bit b ≡ phase k m
-    → phase_bit (if k % m + 1 == m then not b else b) ≡ phase (k + 1) m
+phase_more : (k m : ℕ) (b : Bool) → 0 < m → bit b ≡ phase k m
+    → bit (if k % m + 1 == m then not b else b) ≡ phase (k + 1) m
 phase_more k m b some e =
     let split : k / m * m + k % m ≡ k = div-add-mod' k m in
     let below : k % m < m = mod_below k m some in
@@ -71,11 +71,11 @@ phase_more k m b some e =
       | inl (is, last) ↦
           let whole : k + 1 ≡ (k / m + 1) * m + 0 = omega (arith, add-mul (k / m) 1 m) in
           let pass : (k + 1) / m ≡ k / m + 1 = ap (λ n. n / m) whole ∙ div-mul-add (k / m + 1) m 0 some in
-          ap (λ t. phase_bit (if t then not b else b)) is ∙ pass_phase-next (k / m) b e ∙ ap pass_phase (sym pass)
+          ap (λ t. bit (if t then not b else b)) is ∙ pass_phase-next (k / m) b e ∙ ap pass_phase (sym pass)
       | inr (isnt, further) ↦
           let part : k + 1 ≡ k / m * m + (k % m + 1) = omega arith in
           let pass : (k + 1) / m ≡ k / m = ap (λ n. n / m) part ∙ div-mul-add (k / m) m (k % m + 1) (omega arith) in
-          ap (λ t. phase_bit (if t then not b else b)) isnt ∙ e ∙ ap pass_phase (sym pass)
+          ap (λ t. bit (if t then not b else b)) isnt ∙ e ∙ ap pass_phase (sym pass)
     ]
 
 -- one more is posted
@@ -91,7 +91,7 @@ completed_more s r r' c e some h =
       tail = ap (λ n. (n + 1) % r.size) h.tail ∙ mod-add-mod (length s.posted) r.size 1
           ∙ ap (λ n. n % r.size) (sym more);
       phase =
-          ap (λ n. phase_bit (if n + 1 == r.size then not r.phase else r.phase)) h.tail
+          ap (λ n. bit (if n + 1 == r.size then not r.phase else r.phase)) h.tail
           ∙ phase_more (length s.posted) r.size r.phase some h.phase ∙ ap (λ n. phase n r.size) (sym more);
     })
 

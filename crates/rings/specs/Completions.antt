@@ -1,7 +1,7 @@
 -- What the ring of a completion queue shows (Base 2.0, Queue Pair Model; Phase Tag).
 use Rattle.std.specs.Prelude.{Bool, List, [], drop, if◌then◌else◌, length, not, ℕ, ◌%◌, ◌+◌, ◌++◌, ◌-◌, ◌==◌, ◌∷◌, ◌≡◌}
 use Rattle.std.specs.Prelude.{◌≤◌}
-use Rattle.entry_codec.specs.Cqe.{phase_bit}
+use Rattle.nvme_model.specs.Bits.{bit}
 use Rattle.nvme_model.specs.Completions.{phase}
 use Rattle.rings.specs.declared.completion_ring.Completion.{Completion}
 
@@ -24,7 +24,7 @@ pub record ShowsCompleted (s : QueueCompletions) (r : CompletionRing) : Type 0 w
   pub reaped : s.reaped ≤ length s.posted
   pub waiting : r.waiting ≡ drop s.reaped s.posted
   pub tail : r.tail ≡ length s.posted % r.size
-  pub phase : phase_bit r.phase ≡ phase (length s.posted) r.size
+  pub phase : bit r.phase ≡ phase (length s.posted) r.size
 
 -- one slot stays free (Base 2.0, Full Queue)
 abbrev pub is_full : CompletionRing → Bool

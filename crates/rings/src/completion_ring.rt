@@ -2,7 +2,7 @@
 
 ghost use Rattle.std.specs.Prelude.{◌≡◌, ◌+◌, ◌-◌, ◌%◌, ◌<◌, ◌++◌, ◌∷◌, ◌==◌, [], IfErr, IfOk, OnErr, OnOk, Some, drop};
 ghost use Rattle.std.specs.Prelude.{false, length, option_copied, slice_get, true};
-ghost use Rattle.entry_codec.specs.Cqe.{phase_bit};
+ghost use Rattle.nvme_model.specs.Bits.{bit};
 ghost use Rattle.nvme_model.specs.Completions.{phase};
 ghost use Rattle.rings.specs.Completions.{QueueCompletions, ShowsCompleted, is_full, posted_ring};
 ghost use Rattle.rings.specs.Slots.{IsSize};
@@ -93,7 +93,7 @@ impl CqRing {
     pub fn phase(&self) -> bool
         ensures value { result ≡ self.now.phase }
         ensures counts { (s : QueueCompletions) →
-            ShowsCompleted s self.now → phase_bit result ≡ phase (length s.posted) self.now.size }
+            ShowsCompleted s self.now → bit result ≡ phase (length s.posted) self.now.size }
     {
         self.phase
     }

@@ -24,7 +24,8 @@ use Rattle.job_table.specs.Stages.{owed_in}
 use Rattle.job_table.proofs.Owes.{owes}
 use Rattle.rings.specs.Completions.{CompletionRing, is_full}
 use Rattle.rings.specs.Submissions.{SubmissionRing}
-use Rattle.entry_codec.specs.Cqe.{completion_bytes, phase_bit}
+use Rattle.nvme_model.specs.Bits.{bit}
+use Rattle.entry_codec.specs.Cqe.{completion_bytes}
 use Rattle.entry_codec.specs.declared.cqe.Cqe.{Cqe}
 use Rattle.completions.proofs.CompletionLemmas.{completion_bytes-completion}
 use Rattle.step_core.specs.declared.controller.post.Due.{Due}
@@ -142,7 +143,7 @@ due_is c past t j s cid x r cqe d kept k due has ring sring fields bytes origin 
           ∙ sym (found_at (cids (Tickets.ticket past t)) (posts_of past t) cid 0
           (sym (get_dropped (posts_of past t) (cids (Tickets.ticket past t)))
           ∙ ap (λ (y : Keeping). slice_get y.progress.cids 0) (sym k.is) ∙ has)))
-          (ap (λ (y : Cqe). phase_bit y.phase) fields ∙ ap (λ (y : CompletionRing). phase_bit y.phase) ring)
+          (ap (λ (y : Cqe). bit y.phase) fields ∙ ap (λ (y : CompletionRing). bit y.phase) ring)
           (ap (λ (y : Cqe). y.status) fields);
       bytes = read ∙ ap (λ (y : Keeping). length y.read) k.is;
       last = last ∙ ap (λ (y : Keeping). eqb (length y.progress.cids) 1) k.is;

@@ -13,6 +13,8 @@ impl Machine for Core {
 
     ghost history = { λ core. core.past };
 
+    ghost forgotten = { λ core. core.forgotten };
+
     ghost legal = { ControllerInvariant };
 
     ghost accepts = { Accepts };

@@ -12,7 +12,8 @@ use Rattle.driver_cas.specs.declared.port.Port.{Ghosts}
 use Rattle.driver_cas.specs.declared.shared_port.SharedPort.{SharedPort}
 use Rattle.vandrexu_c.specs.HostStates.{HostState}
 use Rattle.vandrexu_c.specs.Hosts.{HostPolls}
-use Rattle.vandrexu_c.specs.HostReplies.{StartTold, call_given_back}
+use Rattle.driver_cas.specs.Driving.{call_given_back}
+use Rattle.vandrexu_c.specs.HostReplies.{StartTold}
 use Rattle.vandrexu_c.specs.declared.host_reply.HostReply.{HostReply}
 
 none_other : {A : Type 0} {o : Option A} {x : A} → o ≡ None → o ≡ Some x → ⊥

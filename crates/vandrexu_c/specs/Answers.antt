@@ -1,5 +1,6 @@
 -- What a step is answered, as it lies in C.
-use Rattle.std.specs.Prelude.{Bool, None, Option, Some, [], false, true, ℕ, ◌∷◌}
+use Rattle.std.specs.Prelude.{None, Option, Some, [], ℕ, ◌∷◌}
+use Rattle.nvme_model.specs.Bits.{bit}
 use Rattle.nvme_model.specs.Refusals.{refusal_number}
 use Rattle.nvme_model.specs.declared.array.Mode.{Mode}
 use Rattle.nvme_model.specs.declared.array.Range.{Range}
@@ -35,11 +36,6 @@ found_number Found.Equal = 2
 found_number Found.Differs = 3
 found_number Found.Written = 4
 
--- 1 for yes, 0 for no
-abbrev pub truth_number : Bool → ℕ
-truth_number true = 1
-truth_number false = 0
-
 -- what a ticket has to do, with 0 for what a kind doesn't have
 abbrev pub kind_work : ℕ → Judged → FetchedWork
 kind_work t (Judged.SingleFailed s) = record { ticket = t; slba = 0; blocks = 0; kind = 1; op = 0; statuses = 1 }
@@ -62,8 +58,8 @@ abbrev pub blocked_of : Done → BlockedStep
 blocked_of d = record {
   lba = d.lba;
   found = found_number d.found;
-  effect = truth_number d.effect;
-  ended = truth_number d.ended;
+  effect = bit d.effect;
+  ended = bit d.ended;
   zeros = 0 ∷ 0 ∷ [];
 }
 

@@ -39,12 +39,6 @@ module _ {P : Type 0} where
   poll_number (Poll.Done r) = 0
   poll_number (Poll.Failed f) = call_fault_number f
 
-  -- the call, where a poll gives it back
-  abbrev pub call_given_back : Poll P → Option (Call P)
-  call_given_back (Poll.Pending k) = Some k
-  call_given_back (Poll.Later f k) = Some k
-  call_given_back _ = None
-
   -- what was read last, where that was these bytes before
   abbrev pub read_last : Poll P → List ℕ → List ℕ
   read_last (Poll.Done (Reply.Read payload)) before = payload

@@ -12,9 +12,9 @@ use Rattle.driver_cas.specs.declared.fault.Fault.{Fault}
 use Rattle.c_handles.specs.Making.{IsNewDriver}
 use Rattle.driver_cas.specs.contracts.shared_port.SharedPortPort.TheImpl.{ghosts}
 use Rattle.driver_cas.specs.declared.shared_port.SharedPort.{SharedPort}
-use Rattle.vandrexu_c.specs.Driving.{IsCallPolled, Starts}
+use Rattle.driver_cas.specs.Driving.{IsCallPolled, Starts, call_given_back}
 use Rattle.vandrexu_c.specs.HostStates.{HostState}
-use Rattle.vandrexu_c.specs.HostReplies.{StartTold, call_given_back, host_reply_of, plain_reply, poll_number}
+use Rattle.vandrexu_c.specs.HostReplies.{StartTold, host_reply_of, plain_reply, poll_number}
 use Rattle.vandrexu_c.specs.HostReplies.{read_last}
 use Rattle.vandrexu_c.specs.declared.host_reply.HostReply.{HostReply}
 

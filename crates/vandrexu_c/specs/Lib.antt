@@ -8,7 +8,6 @@ pub mod OwnedStates
 pub mod Steps
 pub mod TextCalls
 pub mod Tracers
-pub mod Driving
 pub mod HostStates
 pub mod Hosts
 pub mod HostMaking

@@ -1,6 +1,6 @@
 //! A disk: made, freed, and served.
 
-ghost use Rattle.std.specs.Prelude.{◌+◌, ◌≡◌, ◌≤◌, IfOk, None, Some};
+ghost use Rattle.std.specs.Prelude.{◌-◌, ◌+◌, ◌≡◌, ◌≤◌, IfOk, None, Some};
 ghost use Rattle.c_handles.specs.Owned.{Keeps};
 ghost use Rattle.c_handles.specs.Configurations.{given_numbers};
 ghost use Rattle.c_handles.specs.Disks.{FetchTells, ForgetTells, IsNewDisk, MayRefuseDisk, ServesDisk};
@@ -86,7 +86,7 @@ pub extern "C" fn vandrexu_disk_task(alloc: Global, disk: &mut DiskHandle) -> u3
 pub extern "C" fn vandrexu_disk_forget(alloc: Global, disk: &mut DiskHandle, place: u64) -> u32
     ensures no_handle { disk_in disk.old ≡ None → (result ≡ 101) × (disk_in disk.new ≡ None) }
     ensures forgets { (d : TheDisk) → disk_in disk.old ≡ Some d →
-        Keeps (disk_in disk.new) (λ e. ForgetTells d e result) }
+        Keeps (disk_in disk.new) (λ e. ForgetTells d (place - 1) e result) }
 {
     let before = (place as usize).saturating_sub(1);
     lend!(alloc, disk, mut owned => owned.as_mut().forget(before))

@@ -1,7 +1,8 @@
 //! What the handle of a host owns.
 
 ghost use Rattle.std.specs.Prelude.{◌≡◌, None};
-ghost use Rattle.vandrexu_c.specs.HostReplies.{StartTold, call_given_back, read_last};
+ghost use Rattle.driver_cas.specs.Driving.{call_given_back};
+ghost use Rattle.vandrexu_c.specs.HostReplies.{StartTold, read_last};
 
 use crate::host_reply::{HostReply, PENDING, number_in, plain, reply_in};
 use crate::numbers::{IN_CALL, NO_CALL};

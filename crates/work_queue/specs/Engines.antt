@@ -52,6 +52,11 @@ pub record IsFreshPass (e : Engine) (c : ConfigNumbers) (p : EnginePass) : Type 
 abbrev pub GlancedAt : {T : Type 0} → (ControllerState → T → Type 0) → EnginePass → T → Type 0
 GlancedAt tells q t = Passes.Glanced (λ core. core.config) (λ core. core.past) tells q t
 
+-- A controller that is configured as the pass knows, and whose history is what the pass has seen, forgot its entries
+-- before this place.
+abbrev pub ForgotAt : ℕ → EnginePass → Type 0
+ForgotAt place q = Passes.Forgot (λ core. core.config) (λ core. core.past) (λ core. core.forgotten) place q
+
 -- the ticket's entries, the newest first
 abbrev pub its : Work → Past
 its w = Passes.its w.owner

@@ -86,8 +86,8 @@ impl Engine {
     ghost use Rattle.ticket_laws.specs.Tasks.{task_fault};
     ghost use Rattle.work_queue.specs.Duties.{duty_of, task_step};
     ghost use Rattle.work_queue.specs.Posted.{IsAnswerPosted};
-    ghost use Rattle.work_queue.specs.Engines.{FetchedAs, GlancedAt, IsFreshPass, IsNoTaskFault, IsPassOfEngine};
-    ghost use Rattle.work_queue.specs.Engines.{IsWorkOf, OpenedAs, its, open_step, opening_of};
+    ghost use Rattle.work_queue.specs.Engines.{FetchedAs, ForgotAt, GlancedAt, IsFreshPass, IsNoTaskFault};
+    ghost use Rattle.work_queue.specs.Engines.{IsPassOfEngine, IsWorkOf, OpenedAs, its, open_step, opening_of};
 
     /// The controller with a lock round it, and as many passes as asked for, numbered from 1 in order.
     ///
@@ -315,6 +315,7 @@ impl Engine {
         requires { IsPassOfEngine self.now pass.old }
         ensures same { IsSame pass.old pass.new × (mine pass.new ≡ mine pass.old) }
         ensures knows { Knows ControllerInvariant pass.old pass.new }
+        ensures forgot { OnOk result (ForgotAt place pass.new) }
         ensures busy { OnErr result (seen pass.new ≡ seen pass.old) }
         ensures alone { passes_of pass.old ≡ 1 → IsOk result }
     {

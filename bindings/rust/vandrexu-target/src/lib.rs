@@ -1,5 +1,5 @@
 //! An NVMe/TCP target over the proved controller. Sockets, PDUs, Fabrics and admin commands are here and unproved; each
-//! I/O command goes to the controller as its entry with its data. README.md beside this says how to use it.
+//! I/O command goes to the controller as its entry with its data. docs/TARGET.md says how to use it.
 mod admin;
 mod batch;
 mod completions;

@@ -1,9 +1,9 @@
 use Rattle.std.proofs.Common.{Ok, ap, arith, sym, ◌∙◌}
 use Rattle.std.proofs.lemmas.Grind.{common_steps}
 use Rattle.nvme_model.specs.EntryBytes.{cqe_fields}
-use Rattle.entry_codec.specs.Cqe.{phase_bit}
+use Rattle.nvme_model.specs.Bits.{bit}
 use Rattle.entry_codec.proofs.CqeLemmas.{completion_fields-injective, cqe_bytes-fields, cqe_fields-cqe_bytes}
-use Rattle.entry_codec.proofs.CqeLemmas.{phase_bit-lt}
+use Rattle.entry_codec.proofs.CqeLemmas.{bit-lt}
 use Rattle.entry_codec.proofs.LittleLemmas.{IsBytes-places}
 use Rattle.entry_codec.proofs.cqe.decode_cqe.Goals as goal
 
@@ -20,5 +20,5 @@ returns-clause-again c = λ cqe fits same.
     ap Ok
     (completion_fields-injective _ cqe
     (returns-clause-fields c ∙ ap cqe_fields same
-    ∙ cqe_fields-cqe_bytes cqe.sqhd cqe.sqid cqe.cid (phase_bit cqe.phase) cqe.status fits.sqhd fits.sqid fits.cid
-    (phase_bit-lt cqe.phase) fits.sc fits.sct))
+    ∙ cqe_fields-cqe_bytes cqe.sqhd cqe.sqid cqe.cid (bit cqe.phase) cqe.status fits.sqhd fits.sqid fits.cid
+    (bit-lt cqe.phase) fits.sc fits.sct))

@@ -13,7 +13,7 @@ use Rattle.history_check.proofs.Posting.{post_count, post_cq_place, post_few, po
 use Rattle.history_check.proofs.Posting.{post_nothing, post_off, post_on, post_same, post_sq_place, post_unfit}
 use Rattle.history_check.specs.Contents.{post_fits_at}
 use Rattle.history_check.specs.Judged.{checked_owed}
-use Rattle.entry_codec.specs.Cqe.{phase_bit}
+use Rattle.nvme_model.specs.Bits.{bit}
 use Rattle.history_check.proofs.post.take_post.Goals as goal
 
 pub ticket_place-requires : goal.ticket_place-requires
@@ -133,7 +133,7 @@ returns-then-not-post_fits c = record {
       (c.index.ensures ∙ (λ i.
       get_or c.args.fields.now.submission.items ((c.from.ensures ∙ queue) i - 1) c.index.result.now))
       (c.index-2.ensures ∙ (λ i. get_or c.args.fields.now.completion.items (at i) c.index-2.result.now)) _
-      ((λ i. post_fits_at (sym c.head-head.ensures.value i) (phase_bit (sym c.phase-phase.ensures.value i))
+      ((λ i. post_fits_at (sym c.head-head.ensures.value i) (bit (sym c.phase-phase.ensures.value i))
       c.index-one.result.now.flight c.args.line.now
       (slice_get (checked_owed c.args.config.now c.index-one.result.now.flight) c.index-one.result.now.flight.posts))
       ∙ sym (c.post_fits.ensures.value c.args.config.now
@@ -183,7 +183,7 @@ returns-then-flies_on c = record {
       (ap length c.as_slice-2.ensures) in
       let owes = sym (c.owes_nothing.ensures.value c.args.config.now count) ∙ c.if-owes_nothing.false in
       let fits = (λ i. post_fits_at (sym c.head-head.ensures.value i)
-      (phase_bit ((ap (λ (r : CompletionRing). r.phase) same ∙ sym c.phase-phase.ensures.value) i))
+      (bit ((ap (λ (r : CompletionRing). r.phase) same ∙ sym c.phase-phase.ensures.value) i))
       c.index-one.result.now.flight c.args.line.now
       (slice_get (checked_owed c.args.config.now c.index-one.result.now.flight) c.index-one.result.now.flight.posts))
       ∙ sym (c.post_fits.ensures.value c.args.config.now count) ∙ c.if-not-post_fits.false in
@@ -251,7 +251,7 @@ returns c = record {
       (ap length c.as_slice-2.ensures) in
       let owes = sym (c.owes_nothing.ensures.value c.args.config.now count) ∙ c.if-owes_nothing.false in
       let fits = (λ i. post_fits_at (sym c.head-head.ensures.value i)
-      (phase_bit ((ap (λ (r : CompletionRing). r.phase) same ∙ sym c.phase-phase.ensures.value) i))
+      (bit ((ap (λ (r : CompletionRing). r.phase) same ∙ sym c.phase-phase.ensures.value) i))
       c.index-one.result.now.flight c.args.line.now
       (slice_get (checked_owed c.args.config.now c.index-one.result.now.flight) c.index-one.result.now.flight.posts))
       ∙ sym (c.post_fits.ensures.value c.args.config.now count) ∙ c.if-not-post_fits.false in

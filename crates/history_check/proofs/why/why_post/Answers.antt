@@ -1,7 +1,7 @@
 use Rattle.std.proofs.Common.{ap, arith, get_or, length, slice_get, sym, ◌%◌, ◌-◌, ◌∙◌}
 use Rattle.history_check.specs.Explained.{post_wrong_at}
 use Rattle.history_check.specs.Judged.{checked_owed}
-use Rattle.entry_codec.specs.Cqe.{phase_bit}
+use Rattle.nvme_model.specs.Bits.{bit}
 use Rattle.nvme_model.specs.Tickets.{Ticket}
 use Rattle.nvme_model.specs.declared.config.ConfigNumbers.{ConfigNumbers}
 use Rattle.history_check.proofs.Flights.{found_by, missing_by, rises_by}
@@ -118,7 +118,7 @@ returns c = record {
       (ap length c.as_slice-2.ensures) in
       let owes = sym (c.owes_nothing.ensures.value c.args.config.now count) ∙ c.if-owes_nothing.false in
       c.post_wrong.ensures.value c.args.config.now count
-      ∙ (λ i. post_wrong_at (c.head-head.ensures.value i) (phase_bit (c.phase.ensures.value i))
+      ∙ (λ i. post_wrong_at (c.head-head.ensures.value i) (bit (c.phase.ensures.value i))
       c.index-one.result.now.flight c.args.line.now
       (slice_get (checked_owed c.args.config.now c.index-one.result.now.flight) c.index-one.result.now.flight.posts))
       ∙ tell_post _ past _ k c.args.line.now c.in-Some.place c.index-one.result.now there owes c.index-ring.result.now

@@ -1,0 +1,112 @@
+-- The calls of a host after a start call, and that its port puts no poll off.
+use Rattle.std.proofs.Common.{Result, ap, inl, inr, length, refl, subst, suc, zero, ℕ, ◌∙◌, ◌≡◌, ◌⊎◌}
+use Rattle.std.specs.Prelude.{Err, None, Ok, Option}
+use Rattle.slab.specs.Slab.{SameValues, Slab}
+use Rattle.driver_calls.specs.declared.request.CallData.{CallData}
+use Rattle.driver_calls.specs.declared.request.Request.{Request}
+use Rattle.driver_cas.specs.Cids.{queues_of}
+use Rattle.driver_cas.specs.Drivers.{AsksPort, IsSameDriver, later_by}
+use Rattle.driver_cas.specs.Requests.{IsStart}
+use Rattle.driver_cas.specs.Tries.{IsPortFault}
+use Rattle.driver_cas.specs.Turns.{ArePassed, IsEndedBy}
+use Rattle.driver_cas.specs.declared.call.Call.{Call}
+use Rattle.driver_cas.specs.declared.driver.Driver.{Driver}
+use Rattle.driver_cas.specs.declared.fault.Fault.{Fault}
+use Rattle.driver_cas.specs.declared.fault.PortFault.{PortFault}
+use Rattle.driver_cas.specs.declared.port.Reaped.{Reaped}
+use Rattle.remote_host.specs.Calls.{AreCallsOf, IsKept}
+use Rattle.remote_host.specs.Hosts.{IsAtOnce, StartTells}
+use Rattle.remote_host.specs.Queues.{IsLater, IsReap, SameQueues, brought, to_carry}
+use Rattle.remote_host.specs.contracts.port.RemotePortPort.TheImpl.{ghosts}
+use Rattle.remote_host.specs.declared.port.RemotePort.{RemotePort}
+use Rattle.remote_host.proofs.InFlight.{after_start, all_stay, kept_from}
+use Rattle.remote_host.proofs.Laters.{later_than_later}
+
+-- there was no room
+pub no_room : (d : Driver RemotePort ghosts) (old new : Slab (Call RemotePort)) → SameValues old new → AreCallsOf d old
+    → AreCallsOf d new
+no_room d old new same h = all_stay d d old new (λ k of. of) same h
+
+-- there was room, and the driver was asked
+pub asked : (d e : Driver RemotePort ghosts) (q : Result Request Fault) (contents : CallData)
+    (old mid new : Slab (Call RemotePort)) (r : Result (Call RemotePort) Fault) (t : Result ℕ Fault)
+    → SameValues old mid → IsSameDriver d e → IsLater d.port e.port → IsStart d e q contents r → IsKept mid new r t
+    → AreCallsOf d old → AreCallsOf e new
+asked d e q contents old mid new r t same driver later is kept h =
+    after_start later_than_later d e q contents mid new r t driver later is kept (no_room d old mid same h)
+
+-- no submission queue is passed over by a Publish
+none_asked : (d : Driver RemotePort ghosts) (now : RemotePort) (r : Request) (contents : CallData) (n : ℕ)
+    → ArePassed d now r contents n → now ≡ d.port
+none_asked d now r contents zero h = h
+none_asked d now r contents (suc n) h =
+    elim h.2 [
+      | inl x ↦ x.1 ∙ none_asked d h.0 r contents n h.1
+      | inr x ↦ absurd (let a : PortFault.RingFull ≡ PortFault.NoMemory = x.1.5.cause in cc)
+    ]
+
+-- that the port refused a Publish changes nothing
+same_over : (a b c : RemotePort) → b ≡ a → SameQueues b c → SameQueues a c
+same_over a b c e h = subst (λ (p : RemotePort). SameQueues p c) e h
+
+ended : (d e : Driver RemotePort ghosts) (r : Request) (contents : CallData) (fault : PortFault)
+    → IsEndedBy d e r contents fault → (fault ≡ PortFault.NoMemory) × SameQueues d.port e.port
+ended d e r contents fault h =
+    let before = none_asked d h.before r contents h.turn.place h.turn.passed in
+    (h.refused.5.cause, same_over d.port h.before e.port before h.refused.5.same)
+
+refused : (d e : Driver RemotePort ghosts) (r : Request) (contents : CallData) (f : Fault)
+    → IsPortFault d e r contents f → SameQueues d.port e.port × ((f ≡ Fault.RingFull) ⊎ (f ≡ Fault.NoMemory))
+refused d e r contents Fault.RingFull h =
+    let port = none_asked d e.port r contents (length (queues_of d.cids)) h in (
+      record {
+        to_carry_is = ap (λ (p : RemotePort). to_carry p) port;
+        brought_is = ap (λ (p : RemotePort). brought p) port;
+      },
+      inl refl,
+    )
+refused d e r contents Fault.Busy h =
+    absurd (let a : PortFault.Busy ≡ PortFault.NoMemory = (ended d e r contents PortFault.Busy h).0 in cc)
+refused d e r contents Fault.NoMemory (inl x) = (
+  record {
+    to_carry_is = ap (λ (p : RemotePort). to_carry p) x.1;
+    brought_is = ap (λ (p : RemotePort). brought p) x.1;
+  },
+  inr refl,
+)
+refused d e r contents Fault.NoMemory (inr x) = ((ended d e r contents PortFault.NoMemory x).1, inr refl)
+refused d e r contents Fault.Length h = absurd h
+refused d e r contents Fault.TooLong h = absurd h
+refused d e r contents (Fault.Status s) h = absurd h
+refused d e r contents Fault.SlotArea h = absurd h
+refused d e r contents Fault.NoSerial h = absurd h
+
+at_once : (d e : Driver RemotePort ghosts) (q : Result Request Fault) (contents : CallData)
+    (r : Result (Call RemotePort) Fault) → IsStart d e q contents r → IsAtOnce d.port e.port q r
+at_once d e (Ok q) contents (Ok k) s =
+    none_asked d k.start.value (record { op = q.op; slba = q.slba; blocks = q.blocks }) contents s.turn.place
+    s.turn.passed
+at_once d e (Ok q) contents (Err f) s = refused d e q contents f s.1
+at_once d e (Err f) contents r s = tt
+
+-- what is told where there was room
+pub tells : (d e : Driver RemotePort ghosts) (q : Result Request Fault) (contents : CallData)
+    (old mid new : Slab (Call RemotePort)) (r : Result (Call RemotePort) Fault) (t : Result ℕ Fault)
+    → SameValues old mid → IsSameDriver d e → IsLater d.port e.port → IsStart d e q contents r → IsKept mid new r t
+    → StartTells (record { driver = d; calls = old }) (record { driver = e; calls = new }) q contents t
+tells d e q contents old mid new r t same driver later is kept =
+    inl (record {
+      answer = r;
+      starts = record { same = driver; later = later; is = is };
+      at_once = at_once d e q contents r is;
+      kept = kept_from old mid new r t same kept;
+    })
+
+reaped_at_once : (a b : RemotePort) (r : Result (Option Reaped) PortFault) → IsReap a b r → later_by r ≡ None
+reaped_at_once a b (Ok o) h = refl
+reaped_at_once a b (Err f) h = absurd h
+
+-- no poll is put off
+pub not_later : (d e : Driver RemotePort ghosts) (k : Call RemotePort) (f : Option Fault) → AsksPort d e k f → f ≡ None
+not_later d e k f (inl x) = x.2
+not_later d e k f (inr x) = x.1.told ∙ reaped_at_once d.port e.port x.1.answer x.1.is

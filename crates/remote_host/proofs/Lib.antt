@@ -1,0 +1,3 @@
+pub mod Laters
+pub mod InFlight
+pub mod Kept

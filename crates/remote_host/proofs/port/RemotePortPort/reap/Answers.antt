@@ -1,0 +1,8 @@
+use Rattle.std.proofs.Common.{rules}
+use Rattle.driver_calls.specs.declared.event.PortEvent.{PortEvent}
+use Rattle.remote_host.proofs.Laters.{later_by_one}
+use Rattle.remote_host.proofs.port.RemotePortPort.reap.Goals as goal
+
+pub returns-clause-later : goal.returns-clause-later
+returns-clause-later c =
+    later_by_one _ _ (PortEvent.Got c.in-Some.reaped.cqe c.in-Some.reaped.payload) (search rules)

@@ -1,0 +1,209 @@
+//! A host of a controller that is somewhere else.
+
+ghost use Rattle.std.specs.List.Sorted.{IsStrictlyIncreasing};
+ghost use Rattle.std.specs.Prelude.{◌≡◌, ◌≤◌, ◌+◌, ◌*◌, IfOk, [], length};
+ghost use Rattle.driver_calls.specs.declared.request.CallData.{CallData};
+ghost use Rattle.driver_cas.specs.Requests.{pair_request_of, request_of};
+ghost use Rattle.nvme_model.specs.declared.operation.Op.{Op};
+
+use crate::calls::{keep, next_number, put_back};
+use crate::carry::{Bring, TakeAway};
+use crate::polled::Polled;
+use crate::port::{Outgoing, RemotePort};
+use driver_cas::{Call, Driver, Fault};
+use nvme_model::array::Range;
+use nvme_model::submission::Payload;
+use slab::Slab;
+use std::alloc::{AllocError as NoMemory, Global};
+use std::marker::Model;
+
+/// A host whose commands are carried to a controller that is somewhere else: a driver over two queues in memory, with
+/// its calls in flight, each under a number. The number of a call that was answered is used again.
+#[derive(Drop)]
+pub struct RemoteHost {
+    driver: Driver<RemotePort>,
+    calls: Slab<Call<RemotePort>>,
+}
+
+impl Model for RemoteHost {
+    ghost use Rattle.remote_host.specs.HostStates.{HostState};
+    ghost use Rattle.remote_host.specs.Calls.{AreCallsOf};
+    ghost use Rattle.remote_host.specs.contracts.port.Done as done;
+    ghost use Rattle.std.specs.Coded.{codes};
+
+    ghost Value = { HostState };
+
+    ghost coded = { Prim.hlevel (codes, done.the_row.coded) };
+
+    ghost view = { λ h. record { driver = h.driver; calls = h.calls } };
+
+    ghost invariant = { λ h. AreCallsOf h.driver h.calls };
+}
+
+impl RemoteHost {
+    ghost use Rattle.driver_cas.specs.Drivers.{acwu_of, area_of, port_of};
+    ghost use Rattle.driver_cas.specs.Starts.{IsUntouched};
+    ghost use Rattle.remote_host.specs.Hosts.{IsHandedIn, IsNewHost, PollTells, StartTells};
+    ghost use Rattle.remote_host.specs.Queues.{IsTakenAway};
+
+    /// A host with this number, from 1 on, on these submission queues in rising order. No call is in flight. A Compare
+    /// and Write has at most `acwu` and one blocks (0's based). No start call writes to blocks of `slots`, which may be
+    /// empty.
+    ///
+    /// # Errors
+    ///
+    /// `NoMemory` where a growth is refused.
+    pub fn new(
+        alloc: Global,
+        host: u32,
+        acwu: u16,
+        slots: Range,
+        queues: Vec<u16>,
+    ) -> Result<RemoteHost, NoMemory>
+        requires host { 1 ≤ host }
+        requires slots { slots.slba + slots.blocks ≤ 65536 }
+        requires some { 1 ≤ length queues.items }
+        requires rising { IsStrictlyIncreasing queues.items }
+        ensures { IfOk result (IsNewHost host acwu slots queues.items) }
+    {
+        let port = RemotePort::new(alloc);
+        let calls = Slab::new(alloc);
+        match Driver::new(alloc, port, host, acwu, slots, queues) {
+            Ok(driver) => Ok(RemoteHost { driver, calls }),
+            Err((_, _, why)) => Err(why),
+        }
+    }
+
+    /// Begins to read so many blocks from block `slba` on, and tells the number of the call.
+    ///
+    /// # Errors
+    ///
+    /// The first that holds: `NoMemory` where there is no room for one call more; `Length` of no block; `TooLong` of
+    /// more than 256; `RingFull` where too few CIDs are free; `NoMemory`. Nothing was published.
+    pub fn start_read(&mut self, slba: u64, blocks: u32) -> Result<u32, Fault>
+        ensures { StartTells self.old self.new
+            (request_of (acwu_of self.old.driver) (area_of self.old.driver) Op.Read slba (512 * blocks))
+            (CallData.One []) result }
+    {
+        let Some(number) = next_number(&mut self.calls) else {
+            return Err(Fault::NoMemory);
+        };
+        let started = self.driver.start_read(slba, blocks);
+        keep(&mut self.calls, number, started)
+    }
+
+    /// Begins to write zeros to so many blocks from block `slba` on, and tells the number of the call.
+    ///
+    /// # Errors
+    ///
+    /// As `start_read`, and `SlotArea` behind `TooLong`.
+    pub fn start_write_zeroes(&mut self, slba: u64, blocks: u32) -> Result<u32, Fault>
+        ensures { StartTells self.old self.new
+            (request_of (acwu_of self.old.driver) (area_of self.old.driver) Op.WriteZeroes slba (512 * blocks))
+            (CallData.One []) result }
+    {
+        let Some(number) = next_number(&mut self.calls) else {
+            return Err(Fault::NoMemory);
+        };
+        let started = self.driver.start_write_zeroes(slba, blocks);
+        keep(&mut self.calls, number, started)
+    }
+
+    /// Begins to write this data, 512 bytes a block, from block `slba` on, and tells the number of the call.
+    ///
+    /// # Errors
+    ///
+    /// As `start_write_zeroes`; `Length` also of data that isn't whole blocks.
+    pub fn start_write(&mut self, slba: u64, contents: &[u8]) -> Result<u32, Fault>
+        ensures { StartTells self.old self.new
+            (request_of (acwu_of self.old.driver) (area_of self.old.driver) Op.Write slba (length contents.now))
+            (CallData.One contents.now) result }
+    {
+        let Some(number) = next_number(&mut self.calls) else {
+            return Err(Fault::NoMemory);
+        };
+        let started = self.driver.start_write(slba, contents);
+        keep(&mut self.calls, number, started)
+    }
+
+    /// Begins to compare this data, 512 bytes a block, with the blocks from block `slba` on, and tells the number of
+    /// the call.
+    ///
+    /// # Errors
+    ///
+    /// As `start_write`, without `SlotArea`.
+    pub fn start_compare(&mut self, slba: u64, contents: &[u8]) -> Result<u32, Fault>
+        ensures { StartTells self.old self.new
+            (request_of (acwu_of self.old.driver) (area_of self.old.driver) Op.Compare slba (length contents.now))
+            (CallData.One contents.now) result }
+    {
+        let Some(number) = next_number(&mut self.calls) else {
+            return Err(Fault::NoMemory);
+        };
+        let started = self.driver.start_compare(slba, contents);
+        keep(&mut self.calls, number, started)
+    }
+
+    /// Begins to write the desired data to the blocks from block `slba` on where they hold the expected data, as one
+    /// fused pair, and tells the number of the call.
+    ///
+    /// # Errors
+    ///
+    /// As `start_write`; `Length` also of two data of unlike lengths, `TooLong` also of more than `acwu` and one
+    /// blocks.
+    pub fn start_compare_and_write(
+        &mut self,
+        slba: u64,
+        expected: &[u8],
+        desired: &[u8],
+    ) -> Result<u32, Fault>
+        ensures { StartTells self.old self.new
+            (pair_request_of (acwu_of self.old.driver) (area_of self.old.driver) slba (length expected.now)
+            (length desired.now)) (CallData.Two expected.now desired.now) result }
+    {
+        let Some(number) = next_number(&mut self.calls) else {
+            return Err(Fault::NoMemory);
+        };
+        let started = self.driver.start_compare_and_write(slba, expected, desired);
+        keep(&mut self.calls, number, started)
+    }
+
+    /// Polls the call with this number; None where no call has it. Reaps at most one of the completions that were
+    /// brought, of this call or of another; one that no call is owed is dropped. A call that is answered has no number
+    /// any more.
+    pub fn poll(&mut self, number: u32) -> Option<Polled>
+        ensures { PollTells self.old self.new number result }
+    {
+        let call = self.calls.try_remove(number as usize)?;
+        let poll = self.driver.poll(call);
+        Some(put_back(&mut self.calls, poll))
+    }
+
+    /// Takes away the batch that was published first of those that are there, to be carried to the controller; None
+    /// where there is none.
+    pub fn outgoing(&mut self) -> Option<Outgoing>
+        ensures untouched { IsUntouched self.old.driver self.new.driver }
+        ensures calls { self.new.calls ≡ self.old.calls }
+        ensures taken { IsTakenAway (port_of self.old.driver) (port_of self.new.driver) result }
+    {
+        self.driver.attend(TakeAway)
+    }
+
+    /// Brings a completion of the controller, with what a successful Read read, else an empty payload. A poll reaps it
+    /// behind those that were brought before. It counts for the call that has its CID then: bring each once, and none
+    /// before its batch was taken away.
+    ///
+    /// # Errors
+    ///
+    /// The payload, where a growth is refused; nothing has changed.
+    pub fn incoming(&mut self, cqe: [u8; 16], payload: Payload) -> Result<(), Payload>
+        ensures untouched { IsUntouched self.old.driver self.new.driver }
+        ensures calls { self.new.calls ≡ self.old.calls }
+        ensures brought { IsHandedIn (port_of self.old.driver) (port_of self.new.driver) cqe payload result }
+    {
+        match self.driver.attend(Bring { cqe, payload }) {
+            Ok(()) => Ok(()),
+            Err((payload, _)) => Err(payload),
+        }
+    }
+}
