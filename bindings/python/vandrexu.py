@@ -1,5 +1,5 @@
-"""An NVM Express controller in memory, around the fused Compare and Write, hosts with a driver each, slots that hosts
-claim and release, and a checker of histories.
+"""An NVM Express controller in memory, around the fused Compare and Write, hosts with a driver each, also of a
+controller that is somewhere else, slots that hosts claim and release, and a checker of histories.
 
 Whoever tests a device or its driver in Python has both at hand. The controller makes one step at a time, when it is
 asked; the checker says of each line of a log whether the controller that wrote it did right.
@@ -151,7 +151,7 @@ WORDS: dict[Status, str] = {
     Status.NO_HOST: "as many hosts were made as the disk was made for",
     Status.BAD_NUMBER: "a host has no number 0",
     Status.IN_CALL: "the host has a call",
-    Status.NO_CALL: "the host has no call",
+    Status.NO_CALL: "the host has no such call",
     Status.NO_SLOT: "no such slot",
     Status.NOT_HELD: "the host hasn't the slot",
     Status.HELD: "the host has the slot",
@@ -290,7 +290,7 @@ def _want(number: int) -> None:
         raise _error(number)
 
 
-# ---- The structs of vandrexu.h, vandrexu_hosts.h and vandrexu_slots.h, and their functions
+# ---- The structs of the headers, and their functions
 
 class RawController(Structure):
     """vandrexu_controller"""
@@ -324,6 +324,16 @@ class RawTracer(Structure):
 
 class RawSlotChecker(Structure):
     """vandrexu_slot_checker"""
+    _fields_ = [("at", c_void_p), ("live", c_uint32)]
+
+
+class RawRemote(Structure):
+    """vandrexu_remote"""
+    _fields_ = [("at", c_void_p), ("live", c_uint32)]
+
+
+class RawRemoteSlotHost(Structure):
+    """vandrexu_remote_slot_host"""
     _fields_ = [("at", c_void_p), ("live", c_uint32)]
 
 
@@ -371,6 +381,12 @@ class RawSlotReply(Structure):
                 ("sc", c_uint8), ("zeros", c_uint8 * 2)]
 
 
+class RawOutgoing(Structure):
+    """vandrexu_outgoing"""
+    _fields_ = [("bytes", c_uint8 * 64), ("count", c_size_t), ("more", c_size_t), ("queue", c_uint16),
+                ("zeros", c_uint8 * 6)]
+
+
 _Bytes = POINTER(c_uint8)
 _Controller = POINTER(RawController)
 _Checker = POINTER(RawChecker)
@@ -379,6 +395,9 @@ _Host = POINTER(RawHost)
 _SlotHost = POINTER(RawSlotHost)
 _Tracer = POINTER(RawTracer)
 _SlotChecker = POINTER(RawSlotChecker)
+_Remote = POINTER(RawRemote)
+_RemoteSlotHost = POINTER(RawRemoteSlotHost)
+_Number = POINTER(c_uint32)
 _TEXT = [_Bytes, c_size_t, POINTER(c_size_t), POINTER(c_uint64)]
 _ARGUMENTS = {
     "vandrexu_config_fault": [POINTER(RawConfig)],
@@ -444,6 +463,29 @@ _ARGUMENTS = {
     "vandrexu_slot_checker_take_line": [_SlotChecker, c_char_p, c_size_t],
     "vandrexu_slot_checker_why": [_SlotChecker, POINTER(c_uint64), POINTER(c_uint64), _Bytes, c_size_t,
                                   POINTER(c_size_t)],
+    "vandrexu_remote_new": [c_uint32, c_uint16, c_uint16, c_uint64, c_uint32, _Remote],
+    "vandrexu_remote_free": [_Remote],
+    "vandrexu_remote_read": [_Remote, c_uint64, c_uint32, _Number],
+    "vandrexu_remote_write_zeroes": [_Remote, c_uint64, c_uint32, _Number],
+    "vandrexu_remote_write": [_Remote, c_uint64, c_char_p, c_size_t, _Number],
+    "vandrexu_remote_compare": [_Remote, c_uint64, c_char_p, c_size_t, _Number],
+    "vandrexu_remote_compare_and_write": [_Remote, c_uint64, c_char_p, c_size_t, c_char_p, c_size_t, _Number],
+    "vandrexu_remote_poll": [_Remote, c_uint32, POINTER(RawReply)],
+    "vandrexu_remote_data": [_Remote, _Bytes, c_size_t, POINTER(c_size_t)],
+    "vandrexu_remote_outgoing": [_Remote, POINTER(RawOutgoing), _Bytes, c_size_t],
+    "vandrexu_remote_incoming": [_Remote, c_char_p, c_char_p, c_size_t],
+    "vandrexu_remote_dropped": [_Remote, POINTER(c_uint64)],
+    "vandrexu_remote_slot_host_new": [c_uint32, c_uint16, c_uint64, c_uint32, c_uint64, _RemoteSlotHost],
+    "vandrexu_remote_slot_host_free": [_RemoteSlotHost],
+    "vandrexu_remote_slot_claim": [_RemoteSlotHost, c_uint32],
+    "vandrexu_remote_slot_claim_any": [_RemoteSlotHost],
+    "vandrexu_remote_slot_release": [_RemoteSlotHost, c_uint32],
+    "vandrexu_remote_slot_take_over": [_RemoteSlotHost, c_uint32, c_uint32, c_uint64],
+    "vandrexu_remote_slot_ask_holder": [_RemoteSlotHost, c_uint32],
+    "vandrexu_remote_slot_poll": [_RemoteSlotHost, POINTER(RawSlotReply)],
+    "vandrexu_remote_slot_outgoing": [_RemoteSlotHost, POINTER(RawOutgoing), _Bytes, c_size_t],
+    "vandrexu_remote_slot_incoming": [_RemoteSlotHost, c_char_p, c_char_p, c_size_t],
+    "vandrexu_remote_slot_dropped": [_RemoteSlotHost, POINTER(c_uint64)],
 }
 
 
@@ -476,7 +518,7 @@ def _load() -> ctypes.CDLL:
 
 
 library = _load()
-"""The functions of vandrexu.h, vandrexu_hosts.h and vandrexu_slots.h, as they are for C."""
+"""The functions of the headers, as they are for C."""
 
 
 # ---- Configurations and entries
@@ -1202,6 +1244,23 @@ class Reply(NamedTuple):
     status: tuple[int, int] | None = None
 
 
+def _reply(number: int, reply: RawReply, copy, handle: object) -> Reply:
+    """What a poll told, or its error; of a Read with what was read, which `copy` copies of the handle."""
+    if number != Status.CALL_FAILED:
+        _want(number)
+    kind = ReplyKind(reply.kind)
+    if kind == ReplyKind.FAILED:
+        return Reply(kind, status=(reply.sct, reply.sc))
+    if kind != ReplyKind.READ:
+        return Reply(kind)
+    # (the first call, with no room, says how much there is)
+    needed = c_size_t()
+    copy(handle, (c_uint8 * 1)(), 0, byref(needed))
+    data = (c_uint8 * max(1, needed.value))()
+    _want(copy(handle, data, needed.value, byref(needed)))
+    return Reply(kind, bytes(data)[:needed.value])
+
+
 class _HostHandle(_Handle):
     """A host of a Disk, of either kind."""
 
@@ -1261,22 +1320,11 @@ class Host(_HostHandle):
 
     def poll(self) -> Reply:
         """Reaps at most one completion, and says what became of the call, which is over but where it is pending."""
-        reply, needed = RawReply(), c_size_t()
+        reply = RawReply()
         with self._turn:
             handle = byref(self._raw)
             number = library.vandrexu_host_poll(handle, byref(reply))
-            if number != Status.CALL_FAILED:
-                _want(number)
-            kind = ReplyKind(reply.kind)
-            if kind == ReplyKind.FAILED:
-                return Reply(kind, status=(reply.sct, reply.sc))
-            if kind != ReplyKind.READ:
-                return Reply(kind)
-            # (the first call, with no room, says how much there is)
-            library.vandrexu_host_data(handle, (c_uint8 * 1)(), 0, byref(needed))
-            data = (c_uint8 * max(1, needed.value))()
-            _want(library.vandrexu_host_data(handle, data, needed.value, byref(needed)))
-        return Reply(kind, bytes(data)[:needed.value])
+            return _reply(number, reply, library.vandrexu_host_data, handle)
 
 
 class SlotReplyKind(IntEnum):
@@ -1307,7 +1355,50 @@ class SlotReply(NamedTuple):
     status: tuple[int, int] | None = None
 
 
-class SlotHost(_HostHandle):
+class _SlotCalls(_Handle):
+    """What claims slots and releases them: a SlotHost and a RemoteSlotHost."""
+    _kind: str
+
+    def claim(self, slot: int) -> None:
+        """Begins to claim a slot: to swap zeros for the host's next name."""
+        self._ask(f"{self._kind}_claim", _fits(slot, 32))
+
+    def claim_any(self) -> None:
+        """Begins to claim the first slot that nobody has: slot 0, and each further one by a poll, once the one before is
+        answered to be somebody's, so it is served between two polls. TAKEN is told where each was, at a moment of its
+        own."""
+        self._ask(f"{self._kind}_claim_any")
+
+    def release(self, slot: int) -> None:
+        """Begins to release a slot that was claimed or taken over: to swap the host's name for zeros. From then on the
+        host has it no more, whatever comes of it."""
+        self._ask(f"{self._kind}_release", _fits(slot, 32))
+
+    def take_over(self, slot: int, dead: Name) -> None:
+        """Begins to take a slot over: to swap the name of a dead host for the host's next name. That the dead host does
+        nothing any more is yours to see."""
+        host, serial = dead
+        self._ask(f"{self._kind}_take_over", _fits(slot, 32), _fits(host, 32), _fits(serial, 64))
+
+    def ask_holder(self, slot: int) -> None:
+        """Begins to ask who holds a slot: to read its block."""
+        self._ask(f"{self._kind}_ask_holder", _fits(slot, 32))
+
+    def poll(self) -> SlotReply:
+        """Takes at most one completion, and says what became of the call, which is over but where it is pending."""
+        reply = RawSlotReply()
+        with self._turn:
+            number = getattr(library, f"{self._kind}_poll")(byref(self._raw), byref(reply))
+        if number != Status.CALL_FAILED:
+            _want(number)
+        kind = SlotReplyKind(reply.kind)
+        return SlotReply(kind,
+                         slot=reply.slot if kind == SlotReplyKind.HELD else None,
+                         name=Name(reply.host, reply.serial) if kind == SlotReplyKind.OF_NAME else None,
+                         status=(reply.sct, reply.sc) if kind == SlotReplyKind.FAILED else None)
+
+
+class SlotHost(_HostHandle, _SlotCalls):
     """A host of a Disk that claims slots and releases them, with a driver, and one call at a time. It is freed where
     its `with` ends, by `close`, or where it is forgotten. Its slots then stay held by their names, and another host may
     take them over.
@@ -1341,44 +1432,163 @@ class SlotHost(_HostHandle):
     'HELD'
     """
     _new, _free, _raw_type = "vandrexu_slot_host_new", "vandrexu_slot_host_free", RawSlotHost
+    _kind = "vandrexu_slot"
 
-    def claim(self, slot: int) -> None:
-        """Begins to claim a slot: to swap zeros for the host's next name."""
-        self._ask("vandrexu_slot_claim", _fits(slot, 32))
 
-    def claim_any(self) -> None:
-        """Begins to claim the first slot that nobody has: slot 0, and each further one by a poll, once the one before is
-        answered to be somebody's, so the disk is served between two polls. TAKEN is told where each was, at a moment of
-        its own."""
-        self._ask("vandrexu_slot_claim_any")
+# ---- Hosts of a controller that is somewhere else
 
-    def release(self, slot: int) -> None:
-        """Begins to release a slot that was claimed or taken over: to swap the host's name for zeros. From then on the
-        host has it no more, whatever comes of it."""
-        self._ask("vandrexu_slot_release", _fits(slot, 32))
+class Outgoing(NamedTuple):
+    """An entry that is to be carried to a submission queue. Where there is more, it is the first of a fused pair, whose
+    second is the next entry."""
+    queue: int
+    entry: Entry
+    more: bool
 
-    def take_over(self, slot: int, dead: Name) -> None:
-        """Begins to take a slot over: to swap the name of a dead host for the host's next name. That the dead host does
-        nothing any more is yours to see."""
-        host, serial = dead
-        self._ask("vandrexu_slot_take_over", _fits(slot, 32), _fits(host, 32), _fits(serial, 64))
 
-    def ask_holder(self, slot: int) -> None:
-        """Begins to ask who holds a slot: to read its block."""
-        self._ask("vandrexu_slot_ask_holder", _fits(slot, 32))
+class _Carried(_Handle):
+    """A host whose entries and completions are carried, of either kind."""
+    _kind: str
 
-    def poll(self) -> SlotReply:
-        """Reaps at most one completion, and says what became of the call, which is over but where it is pending."""
-        reply = RawSlotReply()
+    def outgoing(self) -> Outgoing | None:
+        """The entry that was published first of those that weren't told yet, and None where there is none."""
+        raw, room = RawOutgoing(), 1024
+        while True:
+            data = (c_uint8 * max(1, room))()
+            try:
+                self._ask(f"{self._kind}_outgoing", byref(raw), data, room)
+                return Outgoing(raw.queue, Entry(bytes(raw.bytes), bytes(data)[:raw.count]), raw.more == 1)
+            except Error as error:
+                if error.status == Status.NOTHING_READY:
+                    return None
+                if error.status != Status.TOO_SMALL:
+                    raise
+                room = raw.count
+
+    def incoming(self, completion: bytes, data: bytes = b"") -> None:
+        """Brings a completion, with what a successful Read read, else with no data. Where NoMemory is raised it may be
+        brought again.
+
+        Its `sqid` is the host's queue. Command Retry Delay, More and Do Not Retry count as reserved: clear these bits
+        where a controller sets them, else the completion is dropped."""
+        cqe, data = bytes(completion), bytes(data)
+        if len(cqe) != 16:
+            raise ValueError(f"a completion has 16 bytes, and not {len(cqe)}")
+        self._ask(f"{self._kind}_incoming", cqe, data, len(data))
+
+    def dropped(self) -> int:
+        """How many of the completions that were brought, and taken by a poll, no call was owed: of no command in
+        flight, one that came twice, or one with a reserved bit."""
+        count = c_uint64()
+        self._ask(f"{self._kind}_dropped", byref(count))
+        return count.value
+
+
+class RemoteHost(_Carried):
+    """A host of a controller that is somewhere else, with a driver, and up to 64 commands in flight, of which a pair is
+    two. It is freed where its `with` ends, by `close`, or where it is forgotten.
+
+    A call is begun, and polled by its number until it is over; then the next one may have the number. What calls
+    publish is told by `outgoing`, entry by entry, and what came back is brought by `incoming`. What lies between, such
+    as a socket, is the caller's. A reply is what the call's own completions tell, if each is brought once, and none
+    before its entry was told.
+
+    >>> def carry(host, disk):
+    ...     batch = []
+    ...     while it := host.outgoing():
+    ...         batch.append(it.entry)
+    ...         if not it.more:
+    ...             disk.publish(it.queue, batch)
+    ...             work, batch = disk.fetch(it.queue), []
+    ...     disk.settle()
+    ...     for reaped in disk.completions(1):
+    ...         host.incoming(*reaped)
+    >>> disk, host = Controller(Config()), RemoteHost(7, 1)
+    >>> read = host.read(3)
+    >>> swap = host.compare_and_write(3, bytes(512), b"\\xA1" * 512)
+    >>> carry(host, disk)
+    >>> [host.poll(swap).kind.name for _ in "123"]
+    ['PENDING', 'PENDING', 'SWAPPED']
+    >>> host.poll(read).data == bytes(512)
+    True
+    >>> host.poll(read)
+    Traceback (most recent call last):
+    vandrexu.Error: the host has no such call
+    """
+    _new, _free, _raw_type = "vandrexu_remote_new", "vandrexu_remote_free", RawRemote
+    _kind = "vandrexu_remote"
+
+    def __init__(self, number: int, queue: int, acwu: int = 0, *, slots: tuple[int, int] = (0, 0)):
+        """A host of this number on this submission queue of the controller. A Compare and Write has at most `acwu` and
+        one blocks. With `slots=(first, count)` no call writes to so many blocks from block `first` on."""
+        first, count = slots
+        self.number, self.queue = number, queue
+        self._hold(_fits(number, 32), _fits(queue, 16), _fits(acwu, 16), _fits(first, 64), _fits(count, 32))
+
+    def _begin(self, name: str, *arguments: object) -> int:
+        """Begins a call, and returns its number."""
+        call = c_uint32()
+        self._ask(f"vandrexu_remote_{name}", *arguments, byref(call))
+        return call.value
+
+    def read(self, lba: int, blocks: int = 1) -> int:
+        """Begins to read so many blocks, and returns the call's number."""
+        return self._begin("read", _fits(lba, 64), _fits(blocks, 32))
+
+    def write_zeroes(self, lba: int, blocks: int = 1) -> int:
+        """Begins to write zeros to so many blocks, and returns the call's number."""
+        return self._begin("write_zeroes", _fits(lba, 64), _fits(blocks, 32))
+
+    def write(self, lba: int, data: bytes) -> int:
+        """Begins to write this data, 512 bytes a block, and returns the call's number."""
+        data = bytes(data)
+        return self._begin("write", _fits(lba, 64), data, len(data))
+
+    def compare(self, lba: int, data: bytes) -> int:
+        """Begins to compare this data, 512 bytes a block, with what is there, and returns the call's number."""
+        data = bytes(data)
+        return self._begin("compare", _fits(lba, 64), data, len(data))
+
+    def compare_and_write(self, lba: int, expected: bytes, desired: bytes) -> int:
+        """Begins to write the desired data where the blocks hold the expected data, as one fused pair, and returns the
+        call's number."""
+        old, new = bytes(expected), bytes(desired)
+        return self._begin("compare_and_write", _fits(lba, 64), old, len(old), new, len(new))
+
+    def poll(self, call: int) -> Reply:
+        """Takes at most one of the completions that were brought, of whichever call, and says what became of this call,
+        which is over but where it is pending. Calls are polled in any order."""
+        reply = RawReply()
         with self._turn:
-            number = library.vandrexu_slot_poll(byref(self._raw), byref(reply))
-        if number != Status.CALL_FAILED:
-            _want(number)
-        kind = SlotReplyKind(reply.kind)
-        return SlotReply(kind,
-                         slot=reply.slot if kind == SlotReplyKind.HELD else None,
-                         name=Name(reply.host, reply.serial) if kind == SlotReplyKind.OF_NAME else None,
-                         status=(reply.sct, reply.sc) if kind == SlotReplyKind.FAILED else None)
+            handle = byref(self._raw)
+            number = library.vandrexu_remote_poll(handle, _fits(call, 32), byref(reply))
+            return _reply(number, reply, library.vandrexu_remote_data, handle)
+
+
+class RemoteSlotHost(_Carried, _SlotCalls):
+    """A slot host of a controller that is somewhere else, with a driver, and one call at a time. It is freed where its
+    `with` ends, by `close`, or where it is forgotten, and its slots then stay held by their names. Its calls are
+    carried as those of a RemoteHost.
+
+    >>> host = RemoteSlotHost(7, 1, (2, 4), serial=41)
+    >>> host.claim(3)
+    >>> compare, write = host.outgoing(), host.outgoing()
+    >>> compare.entry.data == bytes(512), write.entry.data[0], write.entry.data[8], compare.more, write.more
+    (True, 7, 42, True, False)
+    >>> for cid in compare.entry.entry[2], write.entry.entry[2]:
+    ...     host.incoming(bytes([0, 0, 0, 0, 0, 0, 0, 0, 2, 0, 1, 0, cid, 0, 1, 0]))
+    >>> [host.poll().kind.name for _ in "12"]
+    ['PENDING', 'HELD']
+    """
+    _new, _free, _raw_type = "vandrexu_remote_slot_host_new", "vandrexu_remote_slot_host_free", RawRemoteSlotHost
+    _kind = "vandrexu_remote_slot"
+
+    def __init__(self, number: int, queue: int, slots: tuple[int, int], serial: int = 0):
+        """A host of this number on this submission queue of the controller, which claims so many slots from a block on:
+        `slots=(first, count)`. The serials of its names are above `serial`: a number that a host had before, in a
+        process that ended, is given with a serial that none of its names had, as the clock's."""
+        first, count = slots
+        self.number, self.queue, self.slots = number, queue, slots
+        self._hold(_fits(number, 32), _fits(queue, 16), _fits(first, 64), _fits(count, 32), _fits(serial, 64))
 
 
 def _bytes_of(line: str | bytes) -> bytes:

@@ -11,8 +11,8 @@ from ctypes import byref, c_size_t, c_uint8, c_uint64, sizeof
 
 import vandrexu
 from vandrexu import (BadConfig, BadLine, Blocked, Checker, Completion, Config, Controller, Disk, Entry, Found, Granted,
-                      Host, Kind, Mode, NoBlock, NoHandle, NoMemory, NotLegal, Op, Refused, ReplyKind, SlotHost,
-                      SlotReplyKind, Status, Step, StepKind, Work, library)
+                      Host, Kind, Mode, NoBlock, NoHandle, NoMemory, NotLegal, Op, Refused, RemoteHost, RemoteSlotHost,
+                      ReplyKind, SlotHost, SlotReplyKind, Status, Step, StepKind, Work, library)
 
 TOP = os.path.join(os.path.dirname(os.path.abspath(__file__)), "../../..")
 TWO = Config.of_line("config 8 1 1 0 0 2 4 4 8")
@@ -28,7 +28,7 @@ def read(path):
 
 def headers():
     """The headers, without their comments."""
-    text = "".join(read(f"include/{it}.h") for it in ("vandrexu", "vandrexu_hosts", "vandrexu_slots"))
+    text = "".join(read(f"include/vandrexu{it}.h") for it in ("", "_hosts", "_slots", "_remote"))
     return re.sub(r"/\*.*?\*/", "", text, flags=re.S)
 
 
@@ -215,6 +215,8 @@ class Calls(unittest.TestCase):
             with Disk(TWO, 2, slots=(0, 8)) as disk:
                 Host(disk, 1, 1)
                 SlotHost(disk, 2, 2)
+            RemoteHost(1, 1).read(0)
+            RemoteSlotHost(1, 1, (0, 8)).claim(0)
         # (each has a page at least)
         self.assertLess(pages(), before + 5000)
 
@@ -319,7 +321,7 @@ class Calls(unittest.TestCase):
         kinds = {"uint8_t": c_uint8, "uint16_t": ctypes.c_uint16, "uint32_t": ctypes.c_uint32, "uint64_t": c_uint64,
                  "size_t": c_size_t, "void *": pointer}
         structs = re.findall(r"typedef struct vandrexu_(\w+) \{(.*?)\}", header, flags=re.S)
-        self.assertEqual(len(structs), 15)
+        self.assertEqual(len(structs), 18)
         for name, members in structs:
             made = []
             for kind, field, many in re.findall(r"(\w+ \*?)(\w+)(?:\[(\d+)\])?;", members):

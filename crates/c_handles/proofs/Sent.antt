@@ -9,7 +9,7 @@ use Rattle.driver_cas.specs.contracts.shared_port.SharedPortPort.TheImpl.{ghosts
 use Rattle.driver_cas.specs.contracts.call.Call as call
 use Rattle.driver_cas.specs.contracts.driver.Driver as driver
 
-table_send : IsSend table.the_row
+pub table_send : IsSend table.the_row
 table_send = search (crosses, sendable) depth 20
 
 pub call_send : IsSend (call.the_row (port.the_row static_lft))

@@ -1,13 +1,13 @@
 //! The command `certify`.
 
 use crate::failure::{Failure, end_fault, failure_of};
-use crate::grammar::Grammar;
 use crate::input::opened;
 use crate::kept::Kept;
 use crate::objects::print_object;
 use casdisk_texts::{
     CertifyFault, Logged, RunFault, certify_text, certify_verdict, verdict_object,
 };
+use file_commands::Grammar;
 use std::alloc::Global;
 use std::io;
 use std::io::{Read, Write};

@@ -1,17 +1,18 @@
 //! The commands `check` and `explain`, of a history alone.
 
 use crate::counter::Counter;
+use crate::culprit::Culprit;
 use crate::failure::{Failure, failure_of};
-use crate::grammar::Grammar;
 use crate::input::{opened, size_of};
 use crate::objects::print_object;
 use crate::reader::CountedReader;
-use crate::unmarked::Watched;
-use crate::words::{ExplainedWords, Unmarked};
+use crate::watched::Watched;
+use crate::words::ExplainedWords;
 use casdisk_texts::{
     Explained, RunFault, answer_object, check_text, explain_text, explained_object,
     follow_explained, follow_text, tell_answer,
 };
+use file_commands::Grammar;
 use std::alloc::{AllocError as NoMemory, Global};
 use std::io;
 use std::io::Read;
@@ -68,11 +69,8 @@ fn bad_place(explained: Explained) -> Option<u64> {
 }
 
 // Says on standard error which rule a step breaks; where that takes no words, the answer stands alone.
-fn tell_reason<R: Eprint>(rt: &R, explained: Explained, unmarked: Option<Unmarked>) {
-    let _ = rt.eprintln(ExplainedWords {
-        explained,
-        unmarked,
-    });
+fn tell_reason<R: Eprint>(rt: &R, explained: Explained, culprit: Option<Culprit>) {
+    let _ = rt.eprintln(ExplainedWords { explained, culprit });
 }
 
 // Writes the answer on a history, with its first bad place where it has one.
@@ -111,8 +109,8 @@ pub(crate) fn check_why_file<R: Files + Clock + Input + Print + Eprint + AllocGl
     };
     print_answer(rt, json, bad_place(explained))?;
     if why && explained != Explained::Legal {
-        let unmarked = input.cause_of(explained);
-        tell_reason(rt, explained, unmarked);
+        let culprit = input.culprit_of(explained);
+        tell_reason(rt, explained, culprit);
     }
     Ok(explained_status(explained))
 }
@@ -121,12 +119,9 @@ pub(crate) fn check_why_file<R: Files + Clock + Input + Print + Eprint + AllocGl
 fn explained_text(
     alloc: Global,
     explained: Explained,
-    unmarked: Option<Unmarked>,
+    culprit: Option<Culprit>,
 ) -> Result<String, NoMemory> {
-    let words = ExplainedWords {
-        explained,
-        unmarked,
-    };
+    let words = ExplainedWords { explained, culprit };
     format!(in alloc; "{words}")
 }
 
@@ -134,10 +129,10 @@ fn explained_text(
 fn object_of(
     alloc: Global,
     explained: Explained,
-    unmarked: Option<Unmarked>,
+    culprit: Option<Culprit>,
 ) -> Result<Vec<u8>, NoMemory> {
     let told = explained;
-    let text = explained_text(alloc, told, unmarked)?;
+    let text = explained_text(alloc, told, culprit)?;
     explained_object(alloc, explained, text.as_bytes())
 }
 
@@ -145,29 +140,26 @@ fn object_of(
 fn print_words<R: Print>(
     rt: &R,
     explained: Explained,
-    unmarked: Option<Unmarked>,
+    culprit: Option<Culprit>,
 ) -> Result<(), RunFault> {
-    let words = ExplainedWords {
-        explained,
-        unmarked,
-    };
+    let words = ExplainedWords { explained, culprit };
     match rt.println(words) {
         Ok(()) => Ok(()),
         Err(_) => Err(RunFault::Output),
     }
 }
 
-/// Writes what is said of a history, with the unit that ended without a mark: in words, or as an object.
+/// Writes what is said of a history, with what has to do with its first bad step: in words, or as an object.
 pub(crate) fn print_explained<R: Print + AllocGlobal>(
     rt: &R,
     json: bool,
     explained: Explained,
-    unmarked: Option<Unmarked>,
+    culprit: Option<Culprit>,
 ) -> Result<(), RunFault> {
     if json {
-        print_object(rt, object_of(rt.alloc(), explained, unmarked))
+        print_object(rt, object_of(rt.alloc(), explained, culprit))
     } else {
-        print_words(rt, explained, unmarked)
+        print_words(rt, explained, culprit)
     }
 }
 
@@ -186,7 +178,7 @@ pub(crate) fn explain_file<R: Files + Input + Print + AllocGlobal>(
             return Err(failure_of(rt.alloc(), file, &input.source, Grammar::History, fault));
         }
     };
-    let unmarked = input.cause_of(explained);
-    print_explained(rt, json, explained, unmarked)?;
+    let culprit = input.culprit_of(explained);
+    print_explained(rt, json, explained, culprit)?;
     Ok(explained_status(explained))
 }

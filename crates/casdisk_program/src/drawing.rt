@@ -5,12 +5,12 @@ ghost use Rattle.casdisk_program.specs.Kept.{ComparesKept};
 
 use crate::certify::{CertifyFailure, compared, end_certify, of_history, of_trace};
 use crate::failure::{end_failure, end_fault, failure_of};
-use crate::grammar::Grammar;
 use crate::input::opened;
 use crate::kept::Kept;
 use crate::output_buffer::BUFFER;
 use casdisk_texts::{CertifyFault, Logged, RunFault};
 use command_line::SlotArea;
+use file_commands::Grammar;
 use nvme_model::array::Range;
 use picture_shapes::{Aspect, LanesShown, Subject};
 use picture_svg::{DrawFault, DrawOptions, draw_text};

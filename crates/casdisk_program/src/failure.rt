@@ -1,10 +1,8 @@
 //! Why a command failed, in the words that it has always, and in those of `--why`.
 
-use crate::cause::Cause;
-use crate::grammar::Grammar;
 use crate::kept::Kept;
-use crate::reason::why_bad;
 use casdisk_texts::RunFault;
+use file_commands::{Cause, Grammar, why_bad};
 use history::read_config_line;
 use nvme_model::config::{ConfigFault, ConfigNumbers};
 use std::alloc::Global;

@@ -1,12 +1,11 @@
 //! The command that tells a history in words.
 
 use crate::failure::{Failure, failure_of};
-use crate::grammar::Grammar;
 use crate::input::{Source, opened};
 use crate::kept::Kept;
 use crate::output_buffer::BUFFER;
 use casdisk_texts::RunFault;
-use file_commands::{tell_objects, tell_text};
+use file_commands::{Grammar, tell_objects, tell_text};
 use history_words::Paint;
 use std::io;
 use std::io::{BufWriter, Read, Write};

@@ -4,10 +4,9 @@ ghost use Rattle.std.specs.Prelude.{IfErr};
 ghost use Rattle.casdisk_program.specs.Kept.{FailsKept};
 
 use crate::failure::{Failure, failure_of, unwritten};
-use crate::grammar::Grammar;
 use crate::input::opened;
 use casdisk_texts::RunFault;
-use file_commands::{TraceAnswer, observe_text, trace_object};
+use file_commands::{Grammar, TraceAnswer, observe_text, trace_object};
 use std::fs;
 use std::io::{Print, Read, Write, sink, writer};
 use std::rt::Files;

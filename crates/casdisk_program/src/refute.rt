@@ -1,9 +1,8 @@
 //! The command `refute`.
 
 use crate::failure::{Failure, end_fault, failure_of};
-use crate::grammar::Grammar;
 use crate::input::opened;
-use file_commands::{RefuteFault, refute_object, refute_text};
+use file_commands::{Grammar, RefuteFault, refute_object, refute_text};
 use std::io;
 use std::process::ExitCode;
 use std::rt::Files;

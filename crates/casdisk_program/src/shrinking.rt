@@ -1,9 +1,9 @@
 //! The command `shrink`.
 
 use crate::failure::{end_failure, end_fault, failure_of};
-use crate::grammar::Grammar;
 use crate::input::opened;
 use crate::output_buffer::BUFFER;
+use file_commands::Grammar;
 use shrink::{Conversation, ShrinkFault, Shrunk, shrink_text, shrunk_status};
 use std::io;
 use std::io::{BufWriter, Read, Write};

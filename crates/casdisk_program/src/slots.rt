@@ -2,17 +2,16 @@
 
 use crate::checking::print_explained;
 use crate::failure::{end_fault, failure_of};
-use crate::grammar::Grammar;
 use crate::input::{Source, opened};
 use crate::kept::Kept;
 use crate::objects::print_object;
-use crate::unmarked::Watched;
+use crate::watched::Watched;
 use crate::words::WrongStepWords;
 use casdisk_texts::{Explained, RunFault};
 use command_line::SlotArea;
 use file_commands::{
-    ExplainedSlots, SlotsFault, WrongStep, check_slots, explain_slots, slots_answer_object,
-    slots_object,
+    ExplainedSlots, Grammar, SlotsFault, WrongStep, check_slots, explain_slots,
+    slots_answer_object, slots_object,
 };
 use nvme_model::array::Range;
 use std::alloc::{AllocError as NoMemory, Global};
@@ -135,8 +134,8 @@ fn tell_steps<R: Print + AllocGlobal, I: Read + Drop>(
     explained: Explained,
 ) -> Result<(), RunFault> {
     let told = explained;
-    let unmarked = input.cause_of(told);
-    print_explained(rt, json, explained, unmarked)
+    let culprit = input.culprit_of(told);
+    print_explained(rt, json, explained, culprit)
 }
 
 // Says what is wrong with a history.

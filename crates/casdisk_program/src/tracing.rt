@@ -4,10 +4,10 @@ ghost use Rattle.std.specs.Prelude.{IfErr};
 ghost use Rattle.casdisk_program.specs.Kept.{FailsKept};
 
 use crate::failure::{Failure, failure_of};
-use crate::grammar::Grammar;
 use crate::input::opened;
 use crate::race_tracing::print_trace;
 use casdisk_texts::{RunFault, kinds_of, run_script};
+use file_commands::Grammar;
 use history::{Kinds, all_kinds};
 use std::alloc::Global;
 use std::io::Read;

@@ -1,6 +1,7 @@
 //! The words of an explanation: the place, the line of the file, and the rule, with the names of statuses and fields,
 //! or the slot.
 
+use crate::culprit::Culprit;
 use broken_rules::{Broken, Unlike};
 use casdisk_texts::Explained;
 use file_commands::WrongStep;
@@ -8,18 +9,11 @@ use history_words::status_name;
 use nvme_model::status::{Status, Verdict};
 use std::fmt;
 
-/// A unit that ended without a mark, and the line of the file with its last block.
-#[derive(Clone, Copy)]
-pub struct Unmarked {
-    pub unit: u64,
-    pub line: u64,
-}
-
-/// What is said of a history, in words, with the cause where it is a unit that ended without a mark.
+/// What is said of a history, in words, with what has to do with its first bad step, where that is known.
 #[derive(Drop)]
 pub struct ExplainedWords {
     pub explained: Explained,
-    pub unmarked: Option<Unmarked>,
+    pub culprit: Option<Culprit>,
 }
 
 /// What is said of an entry that breaks the discipline of slots, whose area begins at this block.
@@ -69,12 +63,8 @@ impl fmt::Display for ExplainedWords {
             step.place.saturating_add(1),
             BrokenWords(step.broken)
         )?;
-        match self.unmarked {
-            Some(unmarked) => write!(
-                f,
-                ": unit {} ended without a mark, at line {}",
-                unmarked.unit, unmarked.line
-            ),
+        match self.culprit {
+            Some(culprit) => write!(f, ": {culprit}"),
             None => Ok(()),
         }
     }

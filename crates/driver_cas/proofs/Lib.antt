@@ -4,6 +4,7 @@ pub mod Ports
 pub mod Following
 pub mod Listening
 pub mod Tables
+pub mod Dropping
 pub mod Drivers
 pub mod Sending
 pub mod Starting

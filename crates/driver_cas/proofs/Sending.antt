@@ -21,6 +21,7 @@ use Rattle.driver_calls.specs.Entries.{IsBatch, IsCommand, first_opcode}
 use Rattle.driver_calls.specs.declared.request.CallData.{CallData}
 use Rattle.driver_calls.proofs.Calls.{by_call, call_fused, call_single, one_made}
 use Rattle.driver_calls.proofs.Commands.{command_cid}
+use Rattle.driver_cas.specs.Dropped.{drop_count}
 use Rattle.driver_cas.specs.Starts.{IsSent, IsTaken}
 use Rattle.driver_cas.specs.Tables.{Matches, use_fits, is_its_cid}
 use Rattle.driver_cas.specs.Turns.{AreFree}
@@ -240,6 +241,17 @@ pub as_kept : (began log more : List PortEvent) (cids : QueueCids) → log ≡ m
 as_kept began log more cids e =
     subst (λ (xs : List PortEvent). (length began ≤ length xs) × (is_tidy (since began xs) ≡ true)
     × Matches cids (since began xs)) (sym e)
+
+-- a Publish drops nothing
+pub send_drops : (began before after : List PortEvent) (old new : QueueCids) (queue first second : ℕ) (o : Op)
+    (batch : List Submission) → length began ≤ length before
+    → IsSent before after old new o queue first second batch
+    → drop_count (since began after) ≡ drop_count (since began before)
+send_drops began before after old new queue first second o batch few (inl s) =
+    ap (λ (log : List PortEvent). drop_count (since began log)) s.0
+    ∙ ap drop_count (since_more began before (PortEvent.Sent queue batch) few)
+send_drops began before after old new queue first second o batch few (inr s) =
+    ap (λ (log : List PortEvent). drop_count (since began log)) s.0
 
 -- whether it was published or not
 pub send_keeps : (began before after : List PortEvent) (old new : QueueCids) (queue l n first second : ℕ) (o : Op)

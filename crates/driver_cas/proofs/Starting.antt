@@ -222,7 +222,7 @@ module _ {P : Type 0} (g : Ghosts P) where
   start_keeps on d e (Err f) contents r same later s = (
     subst (λ (x : Result (Call P) Fault). IfOk x (IsCallOf e)) (sym s.0) tt,
     λ other of. (
-      kept on d e same later s.1 other of,
+      kept on d e same later s.2 other of,
       subst (λ (x : Result (Call P) Fault). IfOk x (λ begun. SharesNoCid begun other)) (sym s.0) tt,
     ),
   )

@@ -102,13 +102,13 @@ table_tells cids log Op.WriteZeroes queue first second m u = sym (one_told Op.Wr
 
 -- ---- a completion that is taken in
 
-record Reads (cqe : List ℕ) (k : Cqe) : Type 0 where
-  clean : is_clean cqe ≡ true
-  sqid : (cqe_fields cqe).sqid ≡ k.sqid
-  cid : (cqe_fields cqe).cid ≡ k.cid
-  status : cqe_status cqe ≡ k.status
+pub record Reads (cqe : List ℕ) (k : Cqe) : Type 0 where
+  pub clean : is_clean cqe ≡ true
+  pub sqid : (cqe_fields cqe).sqid ≡ k.sqid
+  pub cid : (cqe_fields cqe).cid ≡ k.cid
+  pub status : cqe_status cqe ≡ k.status
 
-reads : (cqe : List ℕ) (k : Cqe) → completion_fields k ≡ cqe_fields cqe → Reads cqe k
+pub reads : (cqe : List ℕ) (k : Cqe) → completion_fields k ≡ cqe_fields cqe → Reads cqe k
 reads cqe k h =
     record {
       clean = ap (λ (e : CqeFields). eqb e.dw0 0 && eqb e.dw1 0 && eqb e.crd 0 && eqb e.more 0 && eqb e.dnr 0) (sym h);

@@ -2,8 +2,8 @@
 use Rattle.std.specs.List.{position}
 use Rattle.std.specs.List.Sorted.{IsStrictlyIncreasing}
 use Rattle.std.specs.Option.{option_map}
-use Rattle.std.specs.Prelude.{List, None, Option, Some, if◌then◌else◌, length, nat_lt, slice_index_or, ℕ, ◌&&◌, ◌*◌}
-use Rattle.std.specs.Prelude.{◌+◌, ◌<◌, ◌==◌, ◌≡◌, ◌≢◌, ◌≤◌}
+use Rattle.std.specs.Prelude.{Bool, List, None, Option, Some, false, if◌then◌else◌, length, nat_lt, slice_index_or}
+use Rattle.std.specs.Prelude.{true, ℕ, ◌&&◌, ◌*◌, ◌+◌, ◌<◌, ◌==◌, ◌≡◌, ◌≢◌, ◌≤◌}
 use Rattle.nvme_model.specs.declared.status.Status.{Status}
 use Rattle.nvme_model.specs.declared.submission.Payload.{Payload}
 use Rattle.driver_cas.specs.declared.held.CidUse.{CidUse}
@@ -48,6 +48,11 @@ abbrev pub answered : CidUse → Status → Payload → CidUse
 answered Free status payload = Free
 answered Waiting status payload = Answered status payload
 answered (Answered s p) status payload = Answered s p
+
+-- a command waits for its completion
+abbrev pub is_waiting : CidUse → Bool
+is_waiting Waiting = true
+is_waiting _ = false
 
 -- the status that was answered
 abbrev pub answered_status : CidUse → Option Status

@@ -7,6 +7,7 @@ pub mod Ports
 pub mod Reaps
 pub mod Listening
 pub mod Tables
+pub mod Dropped
 pub mod Drivers
 pub mod Turns
 pub mod Starts

@@ -29,8 +29,8 @@ pair_request_of acwu slots slba bytes others =
     if bytes == others then request_of acwu slots Op.Pair slba bytes else Err Fault.Length
 
 module _ {P : Type 0} {g : Ghosts P} where
-  -- A fault of what was asked is answered as such. Else the call is begun, or a port's fault is answered. After any
-  -- fault the driver is as before, and nothing was published.
+  -- A fault of what was asked is answered as such, and the port isn't asked. Else the call is begun, or a port's fault
+  -- is answered. After any fault the driver is as before, and nothing was published.
   abbrev pub IsStart : Driver P g → Driver P g → Result Request Fault → CallData → Result (Call P) Fault → Type 0
-  IsStart d e (Err f) contents r = (r ≡ Err f) × IsAsBefore d e
+  IsStart d e (Err f) contents r = (r ≡ Err f) × (e.port ≡ d.port) × IsAsBefore d e
   IsStart d e (Ok q) contents r = IsTryBegun d e q contents r

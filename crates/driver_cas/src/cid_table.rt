@@ -4,7 +4,7 @@ ghost use Rattle.std.specs.List.Sorted.{IsStrictlyIncreasing};
 ghost use Rattle.std.specs.Prelude.{◌≡◌, ℕ, ◌+◌, ◌<◌, ◌≤◌, ◌*◌, ◌==◌, Contains, IfErr, IfNone, IfOk, IfSome, OnSome};
 ghost use Rattle.std.specs.Prelude.{position, replicate};
 ghost use Rattle.driver_cas.specs.Cids.{AtMostOneFree, ChangesOnly, NoneFreeBelow, NoneFreeBetween, answered, held};
-ghost use Rattle.driver_cas.specs.Cids.{answered_payload, place_of, queues_of, answered_status};
+ghost use Rattle.driver_cas.specs.Cids.{answered_payload, is_waiting, place_of, queues_of, answered_status};
 
 use crate::held::CidUse;
 use nvme_model::status::Status;
@@ -110,19 +110,22 @@ impl CidTable {
         let _ = self.put(queue, cid, place, CidUse::Waiting);
     }
 
-    /// Takes a completion; where no command waits for it, it is dropped.
+    /// Takes a completion; whether a command waited for it. Where none did it is dropped.
     #[tactic(auto, using(crate::proofs::CidsLemmas::held_nowhere))]
-    pub fn answer(&mut self, queue: u16, cid: u16, status: Status, payload: Payload)
+    pub fn answer(&mut self, queue: u16, cid: u16, status: Status, payload: Payload) -> bool
+        ensures waited { result ≡ is_waiting (held self.old queue cid) }
         ensures held { ChangesOnly self.old self.new queue cid
             (answered (held self.old queue cid) status payload) }
         ensures queues { queues_of self.new ≡ queues_of self.old }
     {
         let Some(place) = self.place(queue, cid) else {
-            return;
+            return false;
         };
         if let CidUse::Waiting = self.at(queue, cid, place) {
             let _ = self.put(queue, cid, place, CidUse::Answered { status, payload });
+            return true;
         }
+        false
     }
 
     /// The status that was answered to a CID's command.

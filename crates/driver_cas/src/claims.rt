@@ -1,6 +1,6 @@
 //! Starting to claim and to release a slot, for an allocator of slots.
 
-ghost use Rattle.std.specs.Prelude.{◌≡◌, ◌≤◌, ◌<◌, IfOk, true};
+ghost use Rattle.std.specs.Prelude.{◌≡◌, ◌≤◌, ◌<◌, IfOk, max, true};
 ghost use Rattle.nvme_model.specs.Array.{has_block};
 ghost use Rattle.driver_cas.specs.Drivers.{HasSettings, IsSameDriver, host_of};
 ghost use Rattle.driver_cas.specs.SlotStarts.{IsClaimStart, IsReleaseStart, swap_request};
@@ -28,6 +28,19 @@ pub(crate) fn swap(lba: u64) -> Request
 }
 
 impl<P: Port> Driver<P> {
+    /// Draws no serial up to this one from now on. So a host whose number had a driver before, in a process that ended,
+    /// has no name a second time: it gives a serial that none of its drivers came to, as the clock's.
+    pub fn skip_serials(&mut self, last: u64)
+        ensures settings { HasSettings self.old self.new }
+        ensures port { self.new.port ≡ self.old.port }
+        ensures cids { self.new.cids ≡ self.old.cids }
+        ensures serial { self.new.serial ≡ max self.old.serial last }
+    {
+        if self.serial < last {
+            self.serial = last;
+        }
+    }
+
     /// Begins to claim the slot at block `lba`: to swap zeros for the name of this driver's host and its next serial,
     /// which is given beside the call.
     ///

@@ -3,6 +3,7 @@
 ghost use Rattle.std.specs.List.Sorted.{IsStrictlyIncreasing};
 ghost use Rattle.std.specs.Prelude.{◌≡◌, ◌≤◌, ◌+◌, All, Contains, IfErr, IfOk, [], length, true, ℕ};
 ghost use Rattle.driver_cas.specs.Cids.{held, queues_of};
+ghost use Rattle.driver_cas.specs.Dropped.{drop_count};
 ghost use Rattle.driver_cas.specs.declared.held.CidUse.{CidUse};
 ghost use Rattle.driver_calls.specs.Log.{is_tidy, state_of};
 ghost use Rattle.driver_calls.specs.Views.{since};
@@ -28,12 +29,15 @@ pub struct Driver<P: Port> {
     // The last that was drawn, 0 for none.
     pub(crate) serial: u64,
     pub(crate) cids: CidTable,
+    // Of the completions that were reaped, those that no command waited for.
+    pub(crate) dropped: u64,
     ghost sole: { P.steps port + length (P.log began.value) ≡ P.steps began.value + length (P.log port) },
     ghost grows: { length (P.log began.value) ≤ length (P.log port) },
     ghost tidy: { is_tidy (since (P.log began.value) (P.log port)) ≡ true },
     ghost own: { (q : ℕ) → Contains (queues_of cids) q → P.owns port q ≡ true },
     ghost matches: { (q cid : ℕ) →
         use_fits (held cids q cid) (state_of (since (P.log began.value) (P.log port)) q cid) ≡ true },
+    ghost drops: { dropped ≡ drop_count (since (P.log began.value) (P.log port)) },
     ghost named: { 1 ≤ host },
     ghost within: { slots.slba + slots.blocks ≤ 65536 },
 }
@@ -76,6 +80,7 @@ impl<P: Port> Driver<P> {
                 slots,
                 serial: 0,
                 cids,
+                dropped: 0,
             }),
             Err((queues, why)) => Err((port, queues, why)),
         }

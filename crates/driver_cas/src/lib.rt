@@ -13,6 +13,7 @@ mod fault;
 mod held;
 pub mod laws;
 mod listen;
+mod looks;
 mod messages;
 mod poll;
 mod port;

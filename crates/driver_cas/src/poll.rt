@@ -88,11 +88,12 @@ impl<P: Port> Driver<P> {
         if self.is_answered(call) {
             return Ok(());
         }
-        reap_one(&mut self.port, &mut self.cids)
+        reap_one(&mut self.port, &mut self.cids, &mut self.dropped)
     }
 
     /// The answer to a call whose completions were reaped, or else the call. Reaps at most one completion, of this call
-    /// or of another; one that no call is owed is dropped. Takes no memory but what the port's Reap takes.
+    /// or of another; one that no call is owed is dropped, and counted. Takes no memory but what
+    /// the port's Reap takes.
     pub fn poll(&mut self, call: Call<P>) -> Poll<P>
         requires { IsCallOf self.old call }
         ensures same { IsSameDriver self.old self.new }

@@ -14,31 +14,12 @@ use driver_cas::{Driver, Fault, SharedPort};
 use nvme_model::array::Range;
 use shared_system::{PlainCaller, PlainCallers, PlainSystem, take_caller};
 use slot_alloc::laws::an_untouched_driver_keeps_its_slots;
-use slot_alloc::{Claim, Claiming, Progress, Released, Releasing, Slots, poll_claim, poll_release};
+use slot_alloc::{
+    Claiming, KeptClaim, Progress, Released, Releasing, Slots, poll_claim, poll_release,
+};
 use std::alloc::{AllocError as NoMemory, Global};
 use std::mem;
 use std::snapshot::Snapshot;
-
-/// A claim that may be dropped: its slot then stays held.
-pub struct KeptClaim {
-    pub claim: Claim,
-}
-
-impl Drop for KeptClaim {
-    fn drop(self) {
-        let KeptClaim { claim } = self;
-        let _ = claim.leave();
-    }
-}
-
-impl KeptClaim {
-    fn into_claim(self) -> Claim
-        ensures { result ≡ self.claim }
-    {
-        let KeptClaim { claim } = self;
-        claim
-    }
-}
 
 /// What a host has begun.
 #[derive(Drop)]

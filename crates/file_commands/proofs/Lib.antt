@@ -1,5 +1,5 @@
 mod Found
-mod Wronging
+pub mod Wronging
 pub mod Told
 mod FirstTold
 mod BothRead

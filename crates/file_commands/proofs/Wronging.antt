@@ -22,7 +22,7 @@ use Rattle.file_commands.specs.declared.judging.WrongStep.{WrongStep}
 
 -- ---- the first that breaks it
 
-both_none : (o : Option WrongStep) (b : Option BrokenDiscipline) (n : ℕ)
+pub both_none : (o : Option WrongStep) (b : Option BrokenDiscipline) (n : ℕ)
     → is_none (wrong_or o (wrong_step_at n b)) ≡ (is_none o && is_none b)
 both_none None None n = refl
 both_none None (Some b) n = refl
@@ -87,17 +87,13 @@ first_none : (o later : Option ℕ) → earlier_or o later ≡ None → o ≡ No
 first_none None later h = refl
 first_none (Some place) later h = absurd (let f : Some place ≡ None = h in cc)
 
-stays : (o later : Option WrongStep) → is_some o ≡ true → o ≡ wrong_or o later
+pub stays : (o later : Option WrongStep) → is_some o ≡ true → o ≡ wrong_or o later
 stays None later some = absurd (let f : false ≡ true = some in cc)
 stays (Some step) later some = refl
 
-none_by : (n : ℕ) (b : Option BrokenDiscipline) → wrong_step_at n b ≡ None → b ≡ None
+pub none_by : (n : ℕ) (b : Option BrokenDiscipline) → wrong_step_at n b ≡ None → b ≡ None
 none_by n None h = refl
 none_by n (Some b) h = absurd (let f : wrong_step_at n (Some b) ≡ None = h in cc)
-
-none_step : (o : Option WrongStep) → is_some o ≡ false → o ≡ None
-none_step None none = refl
-none_step (Some step) none = absurd (let f : true ≡ false = none in cc)
 
 module _ (why : Bool) (c : ConfigNumbers) (slots : Range) (past : Past) (e : Entry) (x y : CheckerRun)
     (count count' : ℕ)
@@ -135,7 +131,7 @@ module _ (why : Bool) (c : ConfigNumbers) (slots : Range) (past : Past) (e : Ent
   goes_on h none unbroken broken after breaks watches =
       let now_none = none_of bad'.place none in
       let was_none = earlier h now_none in
-      let no_wrong = none_step wrong unbroken in
+      let no_wrong = none_of wrong unbroken in
       let watching = h.watches was_none no_wrong in
       let counted : count' ≡ length past + 1 = now.counted ∙ sym (add-one (length past)) in
       let later = wrong_step_at (length past + 1) (discipline_broken c slots past e) in

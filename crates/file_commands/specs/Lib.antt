@@ -4,3 +4,4 @@ pub mod Observing
 pub mod ToldText
 pub mod Refuting
 pub mod SlotObjects
+pub mod Reasons

@@ -1,10 +1,11 @@
 -- A text of lines behind a configuration line, printed line by line.
 use Rattle.std.proofs.Common.{All, List, Option, [], append-nil, append_assoc, ap, arith, drop, get_or}
-use Rattle.std.proofs.Common.{length, map, refl, slice_index_or, subst, sym, ℕ, ◌+◌, ◌++◌, ◌<◌, ◌∙◌, ◌∷◌, ◌≡◌, ◌≤◌}
+use Rattle.std.proofs.Common.{length, map, slice_index_or, subst, sym, ℕ, ◌+◌, ◌++◌, ◌<◌, ◌∙◌, ◌∷◌, ◌≡◌, ◌≤◌}
 use Rattle.std.proofs.lemmas.List.{drop_all, drop_more, get_or_default}
 use borrow.Author.Count.{below_more}
 use Rattle.std.proofs.KnownBytes.{Appends-trans}
 use Rattle.std.specs.Io.KnownBytes.{Appends}
+use Rattle.line_text.proofs.Feeds.{feeds_none}
 use Rattle.line_text.specs.Known.{AppendsFront}
 use Rattle.line_text.specs.Lines.{with_feeds}
 use Rattle.line_text.proofs.Known.{front_at, front_first}
@@ -15,10 +16,6 @@ pub feeds_next : (line : List ℕ) (lines : List (List ℕ))
     → with_feeds (line ∷ lines) ≡ (line ++ 10 ∷ []) ++ with_feeds lines
 unfolding with_feeds
 feeds_next line lines = sym (append_assoc line (10 ∷ []) (with_feeds lines))
-
-pub feeds_none : with_feeds [] ≡ []
-unfolding with_feeds
-feeds_none = refl
 
 -- Things that have a line each, of which something holds where it is written.
 module _ {E : Type 0} (line_of : E → List ℕ) (Holds : E → Type 0) where

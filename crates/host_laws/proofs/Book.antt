@@ -6,6 +6,7 @@ use Rattle.std.specs.Prelude.{◌↔◌}
 use Rattle.std.proofs.lemmas.Bool.{and_parts, and_from, cases_Bool, cond-true, cond-false}
 use Rattle.std.proofs.lemmas.List.{append-nil}
 use Rattle.std.proofs.lemmas.Option.{slice_get_within}
+use Rattle.plain_lemmas.proofs.Options.{no_some}
 use Rattle.nvme_model.specs.Config.{completion_queue}
 use Rattle.nvme_model.specs.History.{Past}
 use Rattle.nvme_model.specs.Legal.{IsLegal}
@@ -112,9 +113,6 @@ right_same c n xs ys f g book a d b = λ q cid j e. (
 -- one entry more on queue q
 abbrev grown : (ℕ → List Submission) → ℕ → Submission → ℕ → List Submission
 grown entries q s r = entries r ++ cond (eqb q r) (s ∷ []) []
-
-no_some : (j : ℕ) (A : Type 0) → None ≡ Some j → A
-no_some j A e = absurd cc
 
 right_more : (c : ConfigNumbers) (n : ℕ) (entries : ℕ → List Submission) (reaped : ℕ → ℕ → Option PostLine)
     (book : Book) (q m : ℕ) (s : Submission) → m ≡ length (entries q) → reaped q m ≡ None → book q (cid_of s) ≡ None

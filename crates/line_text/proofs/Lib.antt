@@ -10,3 +10,4 @@ pub mod BlockLaws
 pub mod DataLaws
 pub mod DataReading
 pub mod DataWriting
+pub mod Feeds

@@ -2,7 +2,6 @@
 use Rattle.std.proofs.Common.{Bool, List, [], ap, arith, cond, eq-eqb, eqb, false, inl, inr, length, length-append, not}
 use Rattle.std.proofs.Common.{refl, subst, suc, sym, true, ℕ, ◌&&◌, ◌+◌, ◌++◌, ◌<◌, ◌||◌, ◌∙◌, ◌∷◌, ◌≡◌, ◌≤◌}
 use Rattle.std.specs.List.{list_all}
-use Rattle.std.proofs.lemmas.Bool.{and_from, and_parts}
 use Rattle.nvme_model.specs.Config.{completion_queue}
 use Rattle.nvme_model.specs.History.{Past}
 use Rattle.nvme_model.specs.Legal.{IsLegal}
@@ -12,7 +11,7 @@ use Rattle.nvme_model.specs.declared.config.ConfigNumbers.{ConfigNumbers}
 use Rattle.nvme_model.specs.declared.entry.Entry.{Entry}
 use Rattle.nvme_model.proofs.Beginnings.{earlier}
 use Rattle.host_laws.specs.Beside.{is_beside}
-use Rattle.host_laws.proofs.Elements.{In}
+use Rattle.host_laws.proofs.Elements.{In, all_from, all_in}
 use Rattle.driver_calls.specs.Events.{event_at, events}
 use Rattle.driver_calls.specs.Log.{is_tidy}
 use Rattle.driver_calls.specs.Views.{log_of, since}
@@ -28,15 +27,6 @@ use Rattle.many_host_laws.specs.Rosters.{Roster, all_in_place, is_in_place, keep
 use Rattle.shared_system.specs.Servers.{is_serving, serves}
 
 -- ---- elements of a shared history
-
-pub every_in : {X : Type 0} (p : X → Bool) (xs : List X) (x : X) → list_all p xs ≡ true → In x xs → p x ≡ true
-every_in p [] x h i = absurd i
-every_in p (y ∷ xs) x h (inl e) = ap p e ∙ (and_parts (p y) (list_all p xs) h).0
-every_in p (y ∷ xs) x h (inr i) = every_in p xs x (and_parts (p y) (list_all p xs) h).1 i
-
-pub every_from : {X : Type 0} (p : X → Bool) (xs : List X) → ((x : X) → In x xs → p x ≡ true) → list_all p xs ≡ true
-every_from p [] f = refl
-every_from p (x ∷ xs) f = and_from (p x) (list_all p xs) (f x (inl refl)) (every_from p xs (λ y i. f y (inr i)))
 
 pub numbered : (n : ℕ) (shared : SharedPast) (m : ℕ × Entry) → AreOfPasses n shared → In m shared
     → (0 < m.0) × (m.0 ≤ n)
@@ -172,13 +162,13 @@ place_of c r met m i own serve = go (r.drives m.0) refl
     mine k x h = subst (λ (b : Bool). (not b || x) ≡ true) (eq-eqb k k refl) h
 
     go : (b : Bool) → r.drives m.0 ≡ b → cond b (not (is_beside c (r.queue m.0) m.1)) (is_serving m.1) ≡ true
-    go true e = mine m.0 (not (is_beside c (r.queue m.0) m.1)) (every_in (is_own c (r.queue m.0) m.0) met m (own e) i)
-    go false e = mine m.0 (is_serving m.1) (every_in (λ k. not (eqb k.0 m.0) || is_serving k.1) met m (serve e) i)
+    go true e = mine m.0 (not (is_beside c (r.queue m.0) m.1)) (all_in (is_own c (r.queue m.0) m.0) met m (own e) i)
+    go false e = mine m.0 (is_serving m.1) (all_in (λ k. not (eqb k.0 m.0) || is_serving k.1) met m (serve e) i)
 
 pub all_placed : (c : ConfigNumbers) (r : Roster) (passes : ℕ) (met : SharedPast) → AreOfPasses passes met
     → ((p : ℕ) → 0 < p → p ≤ passes → r.drives p ≡ true → keeps_to c (r.queue p) p met ≡ true)
     → ((p : ℕ) → 0 < p → p ≤ passes → r.drives p ≡ false → serves p met ≡ true) → all_in_place c r met ≡ true
 all_placed c r passes met a own serve =
-    every_from (λ m. is_in_place c r m.0 m.1) met (λ m i.
+    all_from (λ m. is_in_place c r m.0 m.1) met (λ m i.
     let n = numbered passes met m a i in
     place_of c r met m i (own m.0 n.0 n.1) (serve m.0 n.0 n.1))

@@ -11,7 +11,7 @@ use Rattle.nvme_model.specs.declared.array.Range.{Range}
 use Rattle.nvme_model.specs.declared.config.ConfigNumbers.{ConfigNumbers}
 use Rattle.nvme_model.specs.declared.entry.Entry.{Entry}
 use Rattle.host_laws.specs.Beside.{is_beside}
-use Rattle.host_laws.proofs.Elements.{In}
+use Rattle.host_laws.proofs.Elements.{In, all_from, all_in}
 use Rattle.driver_calls.specs.Events.{events}
 use Rattle.driver_calls.specs.Log.{is_tidy}
 use Rattle.driver_calls.specs.Views.{log_of, since}
@@ -24,7 +24,7 @@ use Rattle.slot_log_laws.specs.SlotRules.{keeps_slot_rules}
 use Rattle.slot_log_laws.specs.Swaps.{log_believed}
 use Rattle.many_host_laws.specs.Rosters.{IsRosterOf, Roster, is_in_place}
 use Rattle.shared_system.specs.Servers.{is_serving, serves}
-use Rattle.many_host_laws.proofs.Hosts.{PortIn, every_from, every_in, is_own, made_log, met_slot_rules, met_legal}
+use Rattle.many_host_laws.proofs.Hosts.{PortIn, is_own, made_log, met_slot_rules, met_legal}
 use Rattle.many_host_laws.proofs.Hosts.{met_own}
 use Rattle.many_host_laws.proofs.Hosts.{met_tidy, numbered}
 use Rattle.many_host_laws.proofs.Rosters.{one_believes}
@@ -87,9 +87,9 @@ is_roster : (c : ConfigNumbers) (slots : Range) (p q n m ha hb la lb : ℕ) (met
 is_roster c slots p q n m ha hb la lb met x =
     record {
       legal = x.legal;
-      in_place = every_from (λ e. is_in_place c (roster p q n m ha hb la lb) e.0 e.1) met (λ e i.
-          in_place_at c n m e.1 (eqb e.0 p) (eqb e.0 q) (every_in (is_own c n p) met e x.own i)
-          (every_in (is_own c m q) met e x.own_too i) (x.others e i));
+      in_place = all_from (λ e. is_in_place c (roster p q n m ha hb la lb) e.0 e.1) met (λ e i.
+          in_place_at c n m e.1 (eqb e.0 p) (eqb e.0 q) (all_in (is_own c n p) met e x.own i)
+          (all_in (is_own c m q) met e x.own_too i) (x.others e i));
       drivers = λ k d. let t = each k (eqb k p) refl d in record { tidy = t.0; slot_rules = t.1 };
       queues = picks_apart p q n m x.queues;
       hosts = picks_apart p q ha hb x.hosts;
@@ -132,7 +132,7 @@ whose : (p q : ℕ) (met : SharedPast) (e : ℕ × Entry) → In e met → (e.0 
 whose p q met e i (inl z) = inl z
 whose p q met e i (inr (inl z)) = inr (inl z)
 whose p q met e i (inr (inr s)) =
-    inr (inr (serves_at e.0 e.1 (every_in (λ k. not (eqb k.0 e.0) || is_serving k.1) met e s i)))
+    inr (inr (serves_at e.0 e.1 (all_in (λ k. not (eqb k.0 e.0) || is_serving k.1) met e s i)))
 
 -- what two ports know that have met
 pub record PortsMet (passes : ℕ) (a b : SharedPort) (met : SharedPast) : Type 0 where

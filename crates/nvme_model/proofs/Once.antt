@@ -103,8 +103,8 @@ unit_before c (Entry.Block b ∷ past) t n h e =
     go (inr d) ih = ih d
 unit_before c (e ∷ past) t n h d = unit_before c past t n (follows c past e h).before d
 
-units_before : (c : ConfigNumbers) (past : Past) (t u v : ℕ) → IsLegal c past → u ≤ v → is_some (effect past t v) ≡ true
-    → is_some (effect past t u) ≡ true
+pub units_before : (c : ConfigNumbers) (past : Past) (t u v : ℕ) → IsLegal c past → u ≤ v
+    → is_some (effect past t v) ≡ true → is_some (effect past t u) ≡ true
 units_before c past t u zero h l e = let d : 0 ≡ u = omega (arith, l) in
     subst (λ (i : ℕ). is_some (effect past t i) ≡ true) d e
 units_before c past t u (suc v) h l e =

@@ -2,12 +2,10 @@
 use Rattle.std.proofs.Common.{◌≡◌, ℕ, zero, suc, ◌+◌, ◌%◌, ◌/◌, ◌<◌, ◌^◌, Bool, true, false, cond, List, [], ◌∷◌, ◌++◌}
 use Rattle.std.proofs.Common.{drop, length, map, refl, sym, subst, arith}
 use Rattle.std.specs.Prelude.{codes, decimal}
-use Rattle.std.specs.Char.{digit_value}
 use Rattle.std.specs.List.{join_with_byte, AllByRecursion}
-use Rattle.std.specs.Str.Parse.{AllDigits}
 use Rattle.std.proofs.Math.Dec.{eqb}
 use Rattle.std.proofs.lemmas.Bool.{eqb-true, eqb-false}
-use Rattle.std.proofs.lemmas.Fmt.{decimal_is_IsNumeral}
+use Rattle.line_text.proofs.Feeds.{append_feedless, decimal_feedless}
 use Rattle.line_text.specs.Data.{block_text, parted_blocks, data_text}
 use Rattle.line_text.specs.Lines.{NoFeed}
 use Rattle.line_text.specs.Words.{Without}
@@ -28,27 +26,9 @@ use Rattle.history.specs.StatusWord.{status_word, verdict_words}
 
 -- ---- words
 
--- a digit is no line feed
-digit_feedless : (c : ℕ) (b : Bool) → eqb c 10 ≡ b → digit_value c < 10 → b ≡ false
-digit_feedless c true e h = let bad : digit_value 10 < 10 = subst (λ x. digit_value x < 10) (eqb-true c 10 e) h in
-    absurd (omega arith)
-digit_feedless c false e h = refl
-
-digits_feedless : (cs : List ℕ) → AllDigits 10 cs → Without 10 cs
-digits_feedless [] h = tt
-digits_feedless (c ∷ cs) h = (digit_feedless c (eqb c 10) refl h.0, digits_feedless cs h.1)
-
--- a number of 64 bits
-number : (n : ℕ) → n < 2 ^ 64 → Without 10 (decimal n)
-number n fits = digits_feedless (decimal n) (decimal_is_IsNumeral n fits).0.1
-
--- a number of 16 bits
+-- a decimal_feedless of 16 bits
 number_16 : (n : ℕ) → n < 2 ^ 16 → Without 10 (decimal n)
-number_16 n small = number n (omega arith)
-
-append_feedless : (xs ys : List ℕ) → Without 10 xs → Without 10 ys → Without 10 (xs ++ ys)
-append_feedless [] ys p q = q
-append_feedless (x ∷ xs) ys p q = (p.0, append_feedless xs ys p.1 q)
+number_16 n small = decimal_feedless n (omega arith)
 
 -- words that are joined by another byte
 joined : (d : ℕ) (words : List (List ℕ)) → eqb d 10 ≡ false → AllByRecursion (Without 10) words
@@ -121,31 +101,31 @@ unfolding entry_words
 words_feedless (Entry.Publish p) is = publish_feedless p.queue p.batch is.0
 words_feedless (Entry.Fetch f) is = (
   (refl, (refl, (refl, (refl, (refl, tt))))),
-  (number_16 f.queue is.0, (number f.ticket is.1, verdict_feedless f.verdict)),
+  (number_16 f.queue is.0, (decimal_feedless f.ticket is.1, verdict_feedless f.verdict)),
 )
 words_feedless (Entry.Grant g) is = (
   (refl, (refl, (refl, (refl, (refl, tt))))),
   (
-    number g.ticket is.0,
+    decimal_feedless g.ticket is.0,
     (
-      number g.unit is.1,
-      (number g.range.slba is.2, (number_16 g.range.blocks is.3, (mode_feedless g.mode, tt))),
+      decimal_feedless g.unit is.1,
+      (decimal_feedless g.range.slba is.2, (number_16 g.range.blocks is.3, (mode_feedless g.mode, tt))),
     ),
   ),
 )
 words_feedless (Entry.Block b) is = (
   (refl, (refl, (refl, (refl, (refl, tt))))),
   (
-    number b.ticket is.0,
+    decimal_feedless b.ticket is.0,
     (
-      number b.unit is.1,
-      (number b.lba is.2, (found_feedless b.found, (mark_feedless b.effect, tt))),
+      decimal_feedless b.unit is.1,
+      (decimal_feedless b.lba is.2, (found_feedless b.found, (mark_feedless b.effect, tt))),
     ),
   ),
 )
 words_feedless (Entry.Post p) is = (
   (refl, (refl, (refl, (refl, tt)))),
-  (number p.ticket is.0, (upper_without 10 p.cqe refl, (data_feedless p.payload, tt))),
+  (decimal_feedless p.ticket is.0, (upper_without 10 p.cqe refl, (data_feedless p.payload, tt))),
 )
 words_feedless (Entry.Reap r) is =
     ((refl, (refl, (refl, (refl, tt)))), (number_16 r.queue is.0, (upper_without 10 r.cqe refl, tt)))
@@ -162,7 +142,7 @@ entry_feedless e is = no_feed _ (joined 32 (entry_words e) refl (words_feedless 
 numbers_feedless : (c : ConfigNumbers) (more : List (List ℕ)) → HasConfigLine c → AllByRecursion (Without 10) more
     → AllByRecursion (Without 10) (nine_words c ++ more)
 numbers_feedless c more is others = (
-  number c.blocks (below is.blocks),
+  decimal_feedless c.blocks (below is.blocks),
   (
     number_16 c.atomic.awun is.awun,
     (

@@ -17,7 +17,7 @@ use crate::swept::{drains, sweep_of, sweeps};
 use hosts::OpenGate;
 use race_hosts::Play;
 use race_numbers::{Bias, Race};
-use random_numbers::RandomNumbers;
+use random_script::RandomNumbers;
 use shared_system::{CallerPasses, Callers, System, system_of};
 use std::alloc::{AllocError as NoMemory, Global};
 use std::sync::Wait;

@@ -11,7 +11,7 @@ use crate::racers::{Racer, Racers};
 use crate::scene::Scene;
 use crate::seeded_racing::turn_of;
 use race_numbers::Bias;
-use random_numbers::RandomNumbers;
+use random_script::RandomNumbers;
 use std::alloc::AllocError as NoMemory;
 use std::sync::Wait;
 

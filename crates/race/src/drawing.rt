@@ -1,11 +1,11 @@
 //! Who makes the next turn.
 
 ghost use Rattle.std.specs.Prelude.{◌≡◌, ◌≤◌, ◌%◌};
-ghost use Rattle.random_numbers.specs.Drawn.{drawn_word, moved_on};
+ghost use Rattle.random_script.specs.Drawn.{drawn_word, moved_on};
 ghost use Rattle.race.specs.Drawing.{IsActorIn, actor_of, weight_of_all};
 
 use race_numbers::{Bias, Race};
-use random_numbers::RandomNumbers;
+use random_script::RandomNumbers;
 
 /// Who makes a turn.
 #[derive(Clone, Copy, Debug, PartialEq, Eq)]

@@ -6,7 +6,7 @@ ghost use Rattle.race.specs.Drawing.{IsActorIn};
 
 use crate::drawing::Actor;
 use race_numbers::Race;
-use random_numbers::RandomNumbers;
+use random_script::RandomNumbers;
 use std::alloc::{AllocError as NoMemory, Global};
 
 /// What becomes of a host.

@@ -1,7 +1,7 @@
 //! The turns of a race.
 
 ghost use Rattle.std.specs.Prelude.{◌≡◌, All, IfErr, IfOk, OnOk, true, vec_len};
-ghost use Rattle.random_numbers.specs.Drawn.{moved_on};
+ghost use Rattle.random_script.specs.Drawn.{moved_on};
 ghost use Rattle.shared_system.specs.Callers.{AreCallersOf};
 ghost use Rattle.race_numbers.specs.Races.{race_config};
 ghost use Rattle.race.specs.Ended.{HaveCallersEnded};
@@ -23,7 +23,7 @@ use crate::servers::{Servers, fetches, works};
 use crate::turns::{busy_racer_turn, racer_turn};
 use hosts::{FetchStage, OpenGate, WorkStage};
 use race_numbers::{Bias, Race};
-use random_numbers::RandomNumbers;
+use random_script::RandomNumbers;
 use shared_system::{Callers, System, system_of};
 use std::alloc::{AllocError as NoMemory, Global};
 use std::sync::Wait;

@@ -1,35 +1,11 @@
 //! What a survivor of a race has in hand, from one turn to the next.
 
-ghost use Rattle.std.specs.Prelude.{◌≡◌};
-
 use driver_cas::{Fault, SharedPort};
 use nvme_model::Name;
 use race_hosts::Host;
 use shared_system::HostPasses;
 use slot_alloc::Releasing;
-use slot_takeover::{HeldSlot, ReadingHolder, TakingOver};
-
-/// A slot that was taken over, and may be dropped: it then stays held.
-pub(crate) struct KeptSlot {
-    pub held: HeldSlot,
-}
-
-impl Drop for KeptSlot {
-    fn drop(self) {
-        let KeptSlot { held } = self;
-        let _ = held.leave();
-    }
-}
-
-impl KeptSlot {
-    /// The slot, to be given back.
-    pub(crate) fn into_held(self) -> HeldSlot
-        ensures { result ≡ self.held }
-    {
-        let KeptSlot { held } = self;
-        held
-    }
-}
+use slot_takeover::{KeptSlot, ReadingHolder, TakingOver};
 
 /// A call about the slot at hand that was begun.
 #[derive(Drop)]

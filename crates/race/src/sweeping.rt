@@ -10,7 +10,7 @@ use crate::fate::{Fate, is_dead_at};
 use crate::pausing::{asks_again, pause, waits};
 use crate::survivor::SweepCall::{GivesBack, Reads, TakesOver};
 use crate::survivor::SweepStage::Waits;
-use crate::survivor::{Called, KeptSlot, Survivor, SweepCall, SweepStage};
+use crate::survivor::{Called, Survivor, SweepCall, SweepStage};
 use hosts::OpenGate;
 use nvme_model::Name;
 use race_hosts::{Host, Play};
@@ -18,8 +18,8 @@ use shared_system::System;
 use slot_alloc::{Released, poll_release};
 use slot_takeover::laws::an_untouched_driver_keeps_its_takeovers;
 use slot_takeover::{
-    HeldSlot, Holder, HolderPoll, TakeoverProgress, give_back, poll_holder, poll_takeover,
-    read_holder, take_over,
+    HeldSlot, Holder, HolderPoll, KeptSlot, TakeoverProgress, give_back, poll_holder,
+    poll_takeover, read_holder, take_over,
 };
 use std::alloc::AllocError as NoMemory;
 use std::mem;

@@ -14,7 +14,7 @@ use crate::scene::Scene;
 use crate::servers::{Servers, asks_each, fetches, works, works_each};
 use crate::survivor::Party;
 use race_numbers::Bias;
-use random_numbers::RandomNumbers;
+use random_script::RandomNumbers;
 use std::alloc::{AllocError as NoMemory, Global};
 use std::sync::Wait;
 

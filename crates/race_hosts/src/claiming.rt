@@ -8,10 +8,10 @@ ghost use Rattle.race_hosts.specs.Stages.{IsStageOf};
 
 use crate::owned::Host;
 use crate::pausing::{AfterFault, busy_turn, next_after, pause, stops};
-use crate::stage::{KeptClaim, RoundStage, Rounds};
+use crate::stage::{RoundStage, Rounds};
 use driver_cas::{Fault, SharedPort};
 use shared_system::System;
-use slot_alloc::{Claiming, Progress, poll_claim};
+use slot_alloc::{Claiming, KeptClaim, Progress, poll_claim};
 use std::alloc::AllocError as NoMemory;
 use std::sync::Wait;
 

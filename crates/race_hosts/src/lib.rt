@@ -13,4 +13,4 @@ pub use crate::host_threads::{Play, run_hosts};
 pub use crate::owned::{Host, host_of};
 pub use crate::pausing::busy_turn;
 pub use crate::rounds::{host, host_turn};
-pub use crate::stage::{KeptClaim, RoundStage, Rounds};
+pub use crate::stage::{RoundStage, Rounds};

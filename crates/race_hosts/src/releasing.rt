@@ -7,11 +7,11 @@ ghost use Rattle.race_hosts.specs.Stages.{IsStageOf};
 
 use crate::owned::Host;
 use crate::pausing::{AfterFault, busy_turn, next_after, pause, stops};
-use crate::stage::{KeptClaim, RoundStage};
+use crate::stage::RoundStage;
 use driver_cas::{Fault, SharedPort};
 use shared_system::System;
 use slot_alloc::laws::a_held_claim_stays;
-use slot_alloc::{Claim, Released, Releasing, poll_release};
+use slot_alloc::{Claim, KeptClaim, Released, Releasing, poll_release};
 use std::alloc::AllocError as NoMemory;
 use std::snapshot::Snapshot;
 use std::sync::Wait;

@@ -3,29 +3,7 @@
 ghost use Rattle.std.specs.Prelude.{◌≡◌};
 
 use driver_cas::SharedPort;
-use slot_alloc::{Claim, Claiming, Releasing};
-
-/// A claim that may be dropped: its slot then stays held.
-pub struct KeptClaim {
-    pub claim: Claim,
-}
-
-impl Drop for KeptClaim {
-    fn drop(self) {
-        let KeptClaim { claim } = self;
-        let _ = claim.leave();
-    }
-}
-
-impl KeptClaim {
-    /// The claim, to be released.
-    pub fn into_claim(self) -> Claim
-        ensures { result ≡ self.claim }
-    {
-        let KeptClaim { claim } = self;
-        claim
-    }
-}
+use slot_alloc::{Claiming, KeptClaim, Releasing};
 
 /// How far a host's round has come.
 #[derive(Drop)]

@@ -1,3 +1,4 @@
 pub mod Configs
+pub mod Drawn
 pub mod Kinds
 pub mod Scripts

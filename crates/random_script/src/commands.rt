@@ -6,9 +6,9 @@ ghost use Rattle.script_lines.specs.declared.written.CommandWord.{CommandWord as
 ghost use Rattle.script_lines.specs.declared.written.EntryForm.{EntryForm as TheForm};
 
 use crate::data::{drawn_data, held_data};
+use crate::numbers::RandomNumbers;
 use entry_codec::Fuse;
 use nvme_model::submission::Payload;
-use random_numbers::RandomNumbers;
 use script_lines::{CommandWord, EntryForm, WrittenCommand, WrittenEntry};
 use std::alloc::{AllocError as NoMemory, Global};
 use step_core::Core;

@@ -3,9 +3,9 @@
 ghost use Rattle.std.specs.Prelude.{◌<◌, ◌≤◌};
 ghost use Rattle.random_script.specs.Configs.{IsSmall, Suits};
 
+use crate::numbers::RandomNumbers;
 use crate::script_kind::ScriptKind;
 use history::Config;
-use random_numbers::RandomNumbers;
 
 // A number from the first to the last.
 fn between(random: &mut RandomNumbers, first: u16, last: u16) -> u16

@@ -1,6 +1,6 @@
 //! Data of commands.
 
-use random_numbers::RandomNumbers;
+use crate::numbers::RandomNumbers;
 use std::alloc::{AllocError as NoMemory, Global};
 use step_core::Core;
 

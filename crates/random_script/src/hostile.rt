@@ -5,8 +5,8 @@ ghost use Rattle.random_script.specs.Kinds.{IsRaw};
 
 use crate::commands::{drawn_alone, drawn_extent};
 use crate::data::drawn_data;
+use crate::numbers::RandomNumbers;
 use nvme_model::submission::Payload;
-use random_numbers::RandomNumbers;
 use script_lines::{EntryForm, WrittenEntry, submission_of};
 use std::alloc::{AllocError as NoMemory, Global};
 use step_core::Core;

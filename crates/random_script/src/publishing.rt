@@ -6,9 +6,9 @@ ghost use Rattle.random_script.specs.declared.script_kind.ScriptKind.{ScriptKind
 
 use crate::commands::{Extent, drawn_alone, drawn_extent, drawn_long, drawn_pair};
 use crate::hostile::drawn_hostile;
+use crate::numbers::RandomNumbers;
 use crate::script_kind::ScriptKind;
 use crate::swaps::drawn_swap;
-use random_numbers::RandomNumbers;
 use script_lines::PublishWords;
 use std::alloc::{AllocError as NoMemory, Global};
 use step_core::Core;

@@ -3,11 +3,11 @@
 ghost use Rattle.std.specs.Prelude.{IfOk};
 ghost use Rattle.random_script.specs.Scripts.{AreOfKind, WritesScript};
 
+use crate::numbers::RandomNumbers;
 use crate::scene::Scene;
 use crate::script_kind::ScriptKind;
 use crate::steps::drawn_line;
 use history::{Config, PrintFault};
-use random_numbers::RandomNumbers;
 use script_lines::{WrittenLine, print_script};
 use std::alloc::{AllocError as NoMemory, Global};
 use std::io::Write;

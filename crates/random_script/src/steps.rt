@@ -3,10 +3,10 @@
 ghost use Rattle.std.specs.Prelude.{IfOk, IfSome};
 ghost use Rattle.random_script.specs.Kinds.{IsOfKind};
 
+use crate::numbers::RandomNumbers;
 use crate::publishing::drawn_publish;
 use crate::scene::Scene;
 use crate::script_kind::ScriptKind;
-use random_numbers::RandomNumbers;
 use script_lines::WrittenLine;
 use std::alloc::AllocError as NoMemory;
 

@@ -6,9 +6,9 @@ ghost use Rattle.nvme_model.specs.Slots as slots;
 ghost use Rattle.random_script.specs.Kinds.{IsHeldBlock, IsSwap, IsSwapData};
 
 use crate::commands::{TwoEntries, drawn_cid};
+use crate::numbers::RandomNumbers;
 use entry_codec::Fuse;
 use nvme_model::submission::Payload;
-use random_numbers::RandomNumbers;
 use script_lines::{CommandWord, EntryForm, WrittenCommand, WrittenEntry};
 use std::alloc::{AllocError as NoMemory, Global};
 use step_core::Core;

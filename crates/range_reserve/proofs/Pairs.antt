@@ -5,6 +5,7 @@ use Rattle.std.proofs.Common.{le-ltb, leb-true, nat_le, nat_lt, ◌==◌, true�
 use Rattle.std.specs.List.{list_any}
 use Rattle.std.proofs.lemmas.Bool.{and_from, and_parts, and_right, cases_lt, false_from_ne_true, or_left, or_parts}
 use Rattle.std.proofs.Math.Bool.{and_comm}
+use Rattle.plain_lemmas.proofs.Bools.{or_turned}
 use Rattle.nvme_model.specs.Array.{has_block, overlap}
 use Rattle.nvme_model.specs.Open.{conflict}
 use Rattle.nvme_model.specs.Operations.{is_exclusive}
@@ -16,12 +17,6 @@ use Rattle.range_reserve.specs.declared.held.HeldRange.{HeldRange}
 use Rattle.range_reserve.specs.Reserved.{AreApart}
 
 -- ---- two ranges
-
-or_turned : (a b : Bool) → (a || b) ≡ (b || a)
-or_turned true true = refl
-or_turned true false = refl
-or_turned false true = refl
-or_turned false false = refl
 
 -- neither range comes first
 overlap-turned : (r s : Range) → overlap r s ≡ overlap s r

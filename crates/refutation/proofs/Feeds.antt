@@ -1,26 +1,13 @@
 -- Lines with their line feeds, one after another.
-use Rattle.std.proofs.Common.{List, [], ap, append_assoc, drop, get_or, length, map, refl, sym, take, take-append-drop}
+use Rattle.std.proofs.Common.{List, [], ap, append_assoc, drop, get_or, length, map, sym, take, take-append-drop}
 use Rattle.std.proofs.Common.{ℕ}
 use Rattle.std.proofs.Common.{◌+◌, ◌++◌, ◌<◌, ◌∙◌, ◌∷◌, ◌≡◌}
 use Rattle.std.proofs.lemmas.List.{map-append, take_more}
 use Rattle.std.specs.Prelude.{codes}
+use Rattle.line_text.proofs.Feeds.{feeds_append, feeds_one}
 use Rattle.line_text.specs.Lines.{with_feeds}
 use Rattle.refutation.specs.Refutations.{Refutation}
 use Rattle.refutation.specs.Texts.{block_line, command_line, count_line, front_text, refutation_text, slice_text}
-
-pub feeds_none : with_feeds [] ≡ []
-unfolding with_feeds
-feeds_none = refl
-
-pub feeds_append : (xs ys : List (List ℕ)) → with_feeds (xs ++ ys) ≡ with_feeds xs ++ with_feeds ys
-unfolding with_feeds
-feeds_append [] ys = refl
-feeds_append (x ∷ xs) ys =
-    ap (λ l. x ++ (10 ∷ l)) (feeds_append xs ys) ∙ sym (append_assoc x (10 ∷ with_feeds xs) (with_feeds ys))
-
-pub feeds_one : (x : List ℕ) → with_feeds (x ∷ []) ≡ x ++ 10 ∷ []
-unfolding with_feeds
-feeds_one x = refl
 
 module _ {A : Type 0} (f : A → List ℕ) where
   -- one line more

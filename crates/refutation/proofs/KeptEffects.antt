@@ -20,7 +20,7 @@ use Rattle.nvme_model.proofs.Cut.{clash}
 use Rattle.nvme_model.proofs.HasBlock.{has_inside}
 use Rattle.nvme_model.proofs.Runs.{bytes_same}
 use Rattle.host_laws.specs.Calls.{cqe_status}
-use Rattle.host_laws.proofs.Elements.{In, in_any, in_filter, of_filter}
+use Rattle.host_laws.proofs.Elements.{In, all_from, all_in, in_any, in_filter, of_filter}
 use Rattle.host_laws.proofs.Verdicts.{status_eq}
 use Rattle.refutation.specs.Orders.{may_differ, may_hold, written}
 use Rattle.refutation.specs.Pieces.{Held}
@@ -38,7 +38,7 @@ use Rattle.refutation.specs.Slices.{says_failed, ticket_of, writes_of}
 use Rattle.refutation.specs.Told.{told_units}
 use Rattle.refutation.proofs.EffectBlocks.{equal_at, has_parts, in_blocks, of_blocks}
 use Rattle.refutation.proofs.OwnEffects.{OwnEffect, found_here, no_here, nothing_written, yes_here}
-use Rattle.refutation.proofs.SliceLists.{all_from, all_in, filter_holds, in_map, none_from, not_all, of_map}
+use Rattle.refutation.proofs.SliceLists.{filter_holds, in_map, none_from, not_all, of_map}
 use Rattle.refutation.proofs.SliceLists.{written_map}
 
 -- ---- answers

@@ -1,9 +1,9 @@
 -- Effects keep the order of a trace's lines.
 use Rattle.nvme_model.specs.Tickets
-use Rattle.std.proofs.Common.{◌≡◌, ℕ, zero, suc, ◌≤◌, ◌<◌, Bool, true, false, ◌&&◌, ◌||◌, List, [], ◌∷◌, ◌++◌}
+use Rattle.std.proofs.Common.{◌≡◌, ℕ, suc, ◌≤◌, ◌<◌, Bool, true, false, ◌&&◌, ◌||◌, List, [], ◌∷◌, ◌++◌}
 use Rattle.std.proofs.Common.{length, refl, sym, ap, ◌∙◌, subst, Option, Some, None, is_some, inl, inr, arith}
 use Rattle.std.proofs.Common.{append_assoc, eqb, eqb-true, nat_le, nat_lt, leb-true, ltb-true, slice_get}
-use Rattle.std.proofs.lemmas.Bool.{and_parts, cases_eq, cond-false, cond-true, or_cases}
+use Rattle.std.proofs.lemmas.Bool.{and_parts, cond-false, cond-true, or_cases}
 use Rattle.std.proofs.lemmas.Option.{slice_get_within}
 use Rattle.nvme_model.specs.History.{Past}
 use Rattle.nvme_model.specs.Legal.{IsLegal}
@@ -17,7 +17,7 @@ use Rattle.nvme_model.specs.declared.entry.BlockLine.{BlockLine}
 use Rattle.nvme_model.specs.declared.entry.Entry.{Entry}
 use Rattle.nvme_model.specs.declared.operation.Op.{Op}
 use Rattle.nvme_model.proofs.Beginnings.{earlier}
-use Rattle.nvme_model.proofs.Once.{unit_before}
+use Rattle.nvme_model.proofs.Once.{units_before}
 use Rattle.nvme_model.proofs.Pairs.{marked_here}
 use Rattle.nvme_model.proofs.Runs.{some_at}
 use Rattle.host_laws.proofs.Later.{some_effect}
@@ -213,17 +213,6 @@ ended_before c past a b before h d e f =
     )
 
 -- ---- rule 2: both are of one command
-
-units_before : (c : ConfigNumbers) (past : Past) (t u v : ℕ) → IsLegal c past → u ≤ v
-    → is_some (effect past t v) ≡ true → is_some (effect past t u) ≡ true
-units_before c past t u zero h l e =
-    let d : 0 ≡ u = omega (arith, l) in
-    subst (λ (i : ℕ). is_some (effect past t i) ≡ true) d e
-units_before c past t u (suc v) h l e =
-    elim (cases_eq u (suc v)) [
-      | inl d ↦ subst (λ (i : ℕ). is_some (effect past t i) ≡ true) (sym d) e
-      | inr d ↦ units_before c past t u v h (omega (arith, l, d)) (unit_before c past t v h e)
-    ]
 
 -- the unit before a marked one has its effect before the mark
 unit_marked : (c : ConfigNumbers) (past : Past) (b : BlockLine) (u : ℕ) → IsLegal c (Entry.Block b ∷ past)

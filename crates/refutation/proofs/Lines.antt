@@ -5,6 +5,7 @@ use Rattle.std.proofs.Common.{refl, sym, ap, ap₂, ◌∙◌, subst, Option, So
 use Rattle.std.proofs.Common.{eqb-true}
 use Rattle.std.proofs.Common.{ltb-true, nat_lt, slice_get, is_none}
 use Rattle.std.proofs.lemmas.Bool.{and_parts, and_from, cases_Bool, cond-true, cond-false, or_right}
+use Rattle.plain_lemmas.proofs.Options.{no_some}
 use Rattle.nvme_model.specs.Completions.{reaped_count, reaped_payload}
 use Rattle.nvme_model.specs.EntryBytes.{cqe_fields}
 use Rattle.nvme_model.specs.History.{Past}
@@ -176,9 +177,6 @@ queue_in (Seen.Published p ∷ trace) k q j s h e =
     new t false z i x = absurd (let f : None ≡ Some s = x in cc)
 
 -- ---- the entries that wait
-
-no_some : (j : ℕ) (A : Type 0) → None ≡ Some j → A
-no_some j A e = absurd cc
 
 with_kept : (book : Book) (q cid j r i k : ℕ) → book q cid ≡ None → book r i ≡ Some k
     → with_entry book q cid j r i ≡ Some k

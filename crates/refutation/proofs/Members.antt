@@ -3,6 +3,7 @@ use Rattle.std.proofs.Common.{Bool, List, [], eq-eqb, eqb-true, false, inl, inr,
 use Rattle.std.proofs.Common.{subst, sym, true, zero, ℕ, ◌+◌, ◌++◌, ◌<◌, ◌==◌, ◌∙◌, ◌∷◌, ◌≡◌, ◌⊎◌, arith}
 use Rattle.std.proofs.lemmas.Bool.{and_from, and_parts, or_cases, or_left, or_right, true≢false}
 use Rattle.std.specs.List.{list_all, list_any, range_with_len}
+use Rattle.plain_lemmas.proofs.Bools.{same_tests}
 use Rattle.refutation.specs.Orders.{has}
 
 -- x is one of them
@@ -19,11 +20,6 @@ in_last [] x = inl refl
 in_last (y ∷ xs) x = inr (in_last xs x)
 
 -- ---- tests
-
-pub bool_same : (a b : Bool) → (a ≡ true → b ≡ true) → (b ≡ true → a ≡ true) → a ≡ b
-bool_same true b f g = sym (f refl)
-bool_same false true f g = absurd (true≢false (sym (g refl)))
-bool_same false false f g = refl
 
 pub all_in : {S : Type 0} (p : S → Bool) (xs : List S) (x : S) → list_all p xs ≡ true → In xs x → p x ≡ true
 all_in p [] x h m = absurd m
@@ -54,13 +50,13 @@ any_in p (y ∷ xs) h = elim (or_cases _ _ h) [
 pub all_alike : {S : Type 0} (p q : S → Bool) (xs : List S) → ((x : S) → In xs x → p x ≡ q x)
     → list_all p xs ≡ list_all q xs
 all_alike p q xs f =
-    bool_same _ _ (λ h. all_from q xs (λ x m. sym (f x m) ∙ all_in p xs x h m))
+    same_tests _ _ (λ h. all_from q xs (λ x m. sym (f x m) ∙ all_in p xs x h m))
     (λ h. all_from p xs (λ x m. f x m ∙ all_in q xs x h m))
 
 pub any_alike : {S : Type 0} (p q : S → Bool) (xs : List S) → ((x : S) → In xs x → p x ≡ q x)
     → list_any p xs ≡ list_any q xs
 any_alike p q xs f =
-    bool_same _ _ (λ h. let m = any_in p xs h in any_from q xs m.0 m.1 (sym (f m.0 m.1) ∙ m.2))
+    same_tests _ _ (λ h. let m = any_in p xs h in any_from q xs m.0 m.1 (sym (f m.0 m.1) ∙ m.2))
     (λ h. let m = any_in q xs h in any_from p xs m.0 m.1 (f m.0 m.1 ∙ m.2))
 
 -- ---- numbers
@@ -73,7 +69,7 @@ has_in xs n m = any_from (λ k. k == n) xs n m (eq-eqb n n refl)
 
 -- lists of the same numbers answer a test alike
 pub any_of_same : (p : ℕ → Bool) (a b : List ℕ) → ((n : ℕ) → has a n ≡ has b n) → list_any p a ≡ list_any p b
-any_of_same p a b f = bool_same _ _ (over a b f) (over b a (λ n. sym (f n)))
+any_of_same p a b f = same_tests _ _ (over a b f) (over b a (λ n. sym (f n)))
   where
     over : (a b : List ℕ) → ((n : ℕ) → has a n ≡ has b n) → list_any p a ≡ true → list_any p b ≡ true
     over a b f h =

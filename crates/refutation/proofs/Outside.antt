@@ -19,7 +19,7 @@ use Rattle.nvme_model.specs.declared.entry.Entry.{Entry}
 use Rattle.nvme_model.specs.declared.submission.Submission.{Submission}
 use Rattle.nvme_model.proofs.Beginnings.{earlier}
 use Rattle.nvme_model.proofs.Cut.{clash}
-use Rattle.host_laws.proofs.Elements.{In, any_in}
+use Rattle.host_laws.proofs.Elements.{In, all_in, any_in}
 use Rattle.host_laws.proofs.Reaps.{published_real}
 use Rattle.trace.specs.Aside.{own}
 use Rattle.trace.specs.Observed.{observed}
@@ -38,7 +38,7 @@ use Rattle.refutation.proofs.NamedEffects.{none_before}
 use Rattle.refutation.proofs.OwnEffects.{OwnEffect, Told}
 use Rattle.refutation.proofs.OwnLines.{is_other, own_published}
 use Rattle.refutation.proofs.OwnOrders.{own_range, writer_other}
-use Rattle.refutation.proofs.SliceLists.{all_in, in_flat, in_map, in_numbers}
+use Rattle.refutation.proofs.SliceLists.{in_flat, in_map, in_numbers}
 use Rattle.refutation.proofs.ToldTickets.{told_effect}
 
 -- what was before an effect by its name

@@ -1,8 +1,8 @@
 -- Where each queue pair has a completion queue of its own, a trace has all completions of its queues.
-use Rattle.std.proofs.Common.{◌≡◌, ℕ, ◌+◌, ◌-◌, ◌<◌, ◌≤◌, ◌==◌, Bool, true, false, not, ◌||◌, cond, List, []}
+use Rattle.std.proofs.Common.{◌≡◌, ℕ, ◌+◌, ◌-◌, ◌==◌, Bool, true, false, not, ◌||◌, cond, List, []}
 use Rattle.std.proofs.Common.{◌∷◌, refl, sym, ap, ◌∙◌, Some, None, arith, eq-eqb, eqb, eqb-true}
-use Rattle.std.proofs.Math.Nat.{mod-eq_of_lt}
-use Rattle.nvme_model.specs.Config.{completion_queue, config_fault, is_accepted}
+use Rattle.nvme_model.proofs.Numbers.{own_queue}
+use Rattle.nvme_model.specs.Config.{config_fault, is_accepted}
 use Rattle.nvme_model.specs.EntryBytes.{cqe_fields}
 use Rattle.nvme_model.specs.History.{Past}
 use Rattle.nvme_model.specs.Legal.{IsLegal}
@@ -35,12 +35,6 @@ aside_narrow o c a = by o.contents_unknown
 pub named : (c : ConfigNumbers) (past : Past) (r : ReapLine) (x : ReapAnswers c past r) → is_accepted c ≡ true
     → (cqe_fields r.cqe).sqid ≡ x.queue
 named c past r x a = x.sqid (omega (arith, x.few, (accepted c (none_is (config_fault c) a)).most_pairs))
-
--- the completion queue of a pair that has its own
-pub own_queue : (c : ConfigNumbers) (q : ℕ) → c.cqs ≡ c.pairs → 1 ≤ q → q ≤ c.pairs → completion_queue c q ≡ q
-own_queue c q e some few =
-    let less : q - 1 < c.cqs = omega (arith, e, some, few) in
-    ap (λ (k : ℕ). k + 1) (mod-eq_of_lt less) ∙ omega (arith, some)
 
 -- so the pair's completions are on a queue of that number
 aside_elsewhere : (c : ConfigNumbers) (past : Past) (r : ReapLine) (m : ℕ) → is_accepted c ≡ true → c.cqs ≡ c.pairs

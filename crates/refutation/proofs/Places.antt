@@ -3,6 +3,7 @@ use Rattle.std.proofs.Common.{◌≡◌, ℕ, suc, ◌+◌, ◌≤◌, ◌<◌, 
 use Rattle.std.proofs.Common.{◌++◌, Option, None, Some, get_or, length, length-append, refl, sym, ap, ap₂, ◌∙◌, subst}
 use Rattle.std.proofs.Common.{zero, ◌-◌, append_assoc, arith, eqb, eqb-true, inl, inr, nat_lt, ltb-true, lt-ltb}
 use Rattle.std.proofs.lemmas.Bool.{and_parts, cases_Bool, cases_lt, cond-false, cond-true}
+use Rattle.plain_lemmas.proofs.Bools.{or_turned}
 use Rattle.nvme_model.specs.Config.{completion_queue}
 use Rattle.nvme_model.specs.EntryBytes.{cqe_fields, sqe_fields}
 use Rattle.nvme_model.specs.Operations.{units}
@@ -253,12 +254,6 @@ post_begins c (Seen.Reaped r ∷ trace) n =
 
 -- ---- among the larger of two numbers of lines
 
-or_sym : (a b : Bool) → (a || b) ≡ (b || a)
-or_sym true true = refl
-or_sym true false = refl
-or_sym false true = refl
-or_sym false false = refl
-
 less_larger : (i m n : ℕ) → nat_lt i (larger m n) ≡ (nat_lt i m || nat_lt i n)
 less_larger i m n = go (nat_lt m n) refl (nat_lt i m) refl (nat_lt i n) refl
   where
@@ -355,9 +350,9 @@ told_by_place c whole (Seen.Reaped r ∷ trace) a b x =
 
 of_three : (s x e i h : Bool) → (((s && x) || e) || (i && (s && h))) ≡ ((s && (x || (i && h))) || e)
 of_three true true e i h = refl
-of_three true false e i h = or_sym e (i && h)
-of_three false x e true h = or_sym e false
-of_three false x e false h = or_sym e false
+of_three true false e i h = or_turned e (i && h)
+of_three false x e true h = or_turned e false
+of_three false x e false h = or_turned e false
 
 pub ends_by_place : (c : ConfigNumbers) (trace : List Seen) (a b : EffectName) → ends_before c trace a b
     ≡ (is_sure c trace a.queue a.number a.unit && is_among (answer_place trace a.queue a.number)

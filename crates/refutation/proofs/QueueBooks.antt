@@ -228,7 +228,7 @@ get_replicated (suc n) zero x l = refl
 get_replicated (suc n) (suc i) x l = get_replicated n i x (omega (arith, l))
 
 -- where entry j isn't published, all lines come before it
-before_all : (trace : List Seen) (q j : ℕ) → length (published_in trace q) ≤ j → before_entry trace q j ≡ trace
+pub before_all : (trace : List Seen) (q j : ℕ) → length (published_in trace q) ≤ j → before_entry trace q j ≡ trace
 before_all [] q j l = refl
 before_all (s ∷ trace) q j l =
     cond-true (nat_le (length (published_in (s ∷ trace) q)) j) (s ∷ trace) (before_entry trace q j)

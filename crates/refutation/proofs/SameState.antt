@@ -3,13 +3,14 @@ use Rattle.std.proofs.Common.{Bool, List, None, Option, Some, [], ap, bytes_eq, 
 use Rattle.std.proofs.Common.{inl, inr, refl, slice_get, suc, true, zero, ℕ, ◌&&◌, ◌==◌, ◌||◌, ◌∙◌, ◌∷◌, ◌≡◌}
 use Rattle.std.proofs.lemmas.Bool.{and_parts}
 use Rattle.std.specs.List.{list_all, list_any, range_with_len}
+use Rattle.plain_lemmas.proofs.Bools.{same_tests}
 use Rattle.plain_lemmas.proofs.Lists.{bytes_eq_true}
 use Rattle.plain_lemmas.proofs.Options.{some_one}
 use Rattle.refutation.specs.Layers.{is_next, is_same, same_at, same_for, same_made}
 use Rattle.refutation.specs.Orders.{behind_by, comes_before, finds_by, follows_by, has, held_by, is_met, is_sure}
 use Rattle.refutation.specs.Orders.{is_whole, may_differ, may_hold, writes_by, written}
 use Rattle.refutation.specs.Pieces.{Held, Piece, Slice}
-use Rattle.refutation.proofs.Members.{In, all_in, all_alike, any_of_same, any_alike, bool_same, in_has}
+use Rattle.refutation.proofs.Members.{In, all_in, all_alike, any_of_same, any_alike, in_has}
 
 -- they lead to one state
 pub record Same (blank : List ℕ) (slice : Slice) (a b : List ℕ) : Type 0 where
@@ -32,7 +33,7 @@ same_trans blank slice a b d f g = record {
 -- what the test says
 pub same_from : (blank : List ℕ) (slice : Slice) (a b : List ℕ) → is_same blank slice a b ≡ true → Same blank slice a b
 same_from blank slice a b e = record {
-  made = λ n. bool_same _ _ (λ h. all_in (has b) a n (and_parts _ _ two.0).0 (in_has a n h))
+  made = λ n. same_tests _ _ (λ h. all_in (has b) a n (and_parts _ _ two.0).0 (in_has a n h))
       (λ h. all_in (has a) b n (and_parts _ _ two.0).1 (in_has b n h));
   found = λ p h i j. bytes_eq_true _ _ (all_in (same_at blank slice a b) p.finds h (and_parts _ _ (for_piece p i)).0 j);
   differed = λ p hs h i j k. bytes_eq_true _ _ (all_in (same_at blank slice a b) hs h

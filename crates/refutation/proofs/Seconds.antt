@@ -1,6 +1,7 @@
 -- The second of a pair is answered as its first was.
 use Rattle.std.proofs.Common.{◌≡◌, ℕ, zero, suc, Bool, true, false, not, ◌&&◌, List, [], ◌∷◌, Option, None, Some}
 use Rattle.std.proofs.Common.{refl, sym, ap, ap₂, ◌∙◌, subst, subst₂, slice_get}
+use Rattle.nvme_model.proofs.Runs.{status_same}
 use Rattle.nvme_model.specs.EntryBytes.{cqe_fields}
 use Rattle.nvme_model.specs.History.{Past}
 use Rattle.nvme_model.specs.Legal.{IsLegal}
@@ -25,7 +26,6 @@ use Rattle.refutation.specs.Lines.{answer_in}
 use Rattle.refutation.proofs.LastLine.{LastReap, answers, reap_of}
 use Rattle.refutation.proofs.LineRules.{names_its_entry, none_of}
 use Rattle.refutation.proofs.Lines.{answer_post, answers_one, published_seen, tidy_on}
-use Rattle.refutation.proofs.TableStatus.{same_itself}
 
 -- the entries of a pair
 fused_by : (past : Past) (q i : ℕ) (a b : Option Submission) → slice_get (published_entries past q) i ≡ a
@@ -52,7 +52,7 @@ go_together c past q i p r h f x y =
     fails false e = refl
     fails true e =
         let same = second_fails c past q i p r h f x (status_eq (cqe_status p.cqe) compare_failure e) y in
-        ap not (subst (λ (s : Status). same_status s failed_fused ≡ true) (sym same) (same_itself failed_fused))
+        ap not (subst (λ (s : Status). same_status s failed_fused ≡ true) (sym same) (status_same failed_fused))
 
 second_by : (c : ConfigNumbers) (before : Past) (r : ReapedLine) (q i : ℕ) (p : PostLine)
     → IsLegal c (Entry.Reap (reap_of r) ∷ before) → tidy_on q (observed c before) ≡ true

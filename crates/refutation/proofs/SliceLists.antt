@@ -12,15 +12,6 @@ use Rattle.refutation.specs.Slices.{each_once, is_named, numbers_where, same_eff
 
 -- ---- elements
 
-pub all_in : {X : Type 0} (p : X → Bool) (xs : List X) (x : X) → list_all p xs ≡ true → In x xs → p x ≡ true
-all_in p [] x h i = absurd i
-all_in p (y ∷ xs) x h (inl e) = ap p e ∙ (and_parts (p y) (list_all p xs) h).0
-all_in p (y ∷ xs) x h (inr i) = all_in p xs x (and_parts (p y) (list_all p xs) h).1 i
-
-pub all_from : {X : Type 0} (p : X → Bool) (xs : List X) → ((x : X) → In x xs → p x ≡ true) → list_all p xs ≡ true
-all_from p [] f = refl
-all_from p (x ∷ xs) f = and_from (p x) (list_all p xs) (f x (inl refl)) (all_from p xs (λ y i. f y (inr i)))
-
 pub none_from : {X : Type 0} (p : X → Bool) (xs : List X) → ((x : X) → In x xs → p x ≡ false)
     → list_any p xs ≡ false
 none_from p [] f = refl

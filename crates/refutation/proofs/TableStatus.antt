@@ -1,10 +1,12 @@
 -- Each completion of a legal history has a status that its entry's own fields, and those of its neighbours, allow.
 use Rattle.nvme_model.specs.Tickets
-use Rattle.std.proofs.Common.{◌≡◌, ℕ, zero, suc, ◌+◌, Bool, true, false, ◌&&◌, ◌||◌, cond, List, [], ◌∷◌}
+use Rattle.std.proofs.Common.{◌≡◌, ℕ, ◌+◌, Bool, true, false, ◌&&◌, ◌||◌, cond, List, [], ◌∷◌}
 use Rattle.std.proofs.Common.{◌⊎◌, Option, None, Some, map, slice_get, nat_lt, is_some, unwrap_or}
-use Rattle.std.proofs.Common.{refl, sym, ap, ap₂, ◌∙◌, subst, inl, inr, arith, eqb, eq-eqb, not}
+use Rattle.std.proofs.Common.{refl, sym, ap, ap₂, ◌∙◌, subst, inl, inr, arith, eqb, not}
 use Rattle.std.proofs.lemmas.Bool.{and_from, or_left}
 use Rattle.std.proofs.lemmas.Bool.{or_right}
+use Rattle.host_laws.proofs.Outcomes.{one_at}
+use Rattle.nvme_model.proofs.Runs.{status_same}
 use Rattle.nvme_model.specs.Commands.{data_length, is_compare, is_flush, is_read, is_write, is_write_zeroes}
 use Rattle.nvme_model.specs.EntryBytes.{Sqe, block_count, slba, sqe_fields}
 use Rattle.nvme_model.specs.History.{Past}
@@ -32,22 +34,15 @@ use Rattle.refutation.specs.MayAnswer.{answers_first, answers_second, verdict_at
 
 -- ---- what a ticket owes, by its verdict
 
-pub same_itself : (s : Status) → same_status s s ≡ true
-same_itself s = and_from _ _ (eq-eqb s.sct s.sct refl) (eq-eqb s.sc s.sc refl)
-
 same_if : (s x : Status) → s ≡ x → same_status x s ≡ true
-same_if s x e = subst (λ (y : Status). same_status y s ≡ true) e (same_itself s)
-
-one_owed : (s x : Status) (i : ℕ) → slice_get (s ∷ []) i ≡ Some x → s ≡ x
-one_owed s x zero h = same_some s x (Some s) refl h
-one_owed s x (suc i) h = absurd (let f : None ≡ Some x = h in cc)
+same_if s x e = subst (λ (y : Status). same_status y s ≡ true) e (status_same s)
 
 -- success, or Compare Failure where some effect says no
 by_effects : (some done : Bool) (x : Status)
     → slice_get (cond some (compare_failure ∷ []) (cond done (success ∷ []) [])) 0 ≡ Some x
     → (is_success x ≡ true) ⊎ ((some ≡ true) × (same_status x compare_failure ≡ true))
-by_effects true done x h = inr (refl, same_if compare_failure x (one_owed compare_failure x 0 h))
-by_effects false true x h = inl (ap is_success (sym (one_owed success x 0 h)))
+by_effects true done x h = inr (refl, same_if compare_failure x (one_at compare_failure x 0 h))
+by_effects false true x h = inl (ap is_success (sym (one_at success x 0 h)))
 by_effects false false x h = absurd (let f : None ≡ Some x = h in cc)
 
 pair_first : (some done : Bool) (x : Status)
@@ -82,7 +77,7 @@ compares_alone e h = go (is_write e) (is_read e) (is_compare e) (is_write_zeroes
 alone_owes : (c : ConfigNumbers) (past : Past) (t : ℕ) (o : Option Op) (x : Status) → is_pair o ≡ false
     → slice_get (owed_by c past t o) 0 ≡ Some x
     → (is_success x ≡ true) ⊎ ((some_no c past t ≡ true) × (same_status x compare_failure ≡ true))
-alone_owes c past t None x p h = inl (ap is_success (sym (one_owed success x 0 h)))
+alone_owes c past t None x p h = inl (ap is_success (sym (one_at success x 0 h)))
 alone_owes c past t (Some Op.Read) x p h = by_effects (some_no c past t) (all_done c past t) x h
 alone_owes c past t (Some Op.Compare) x p h = by_effects (some_no c past t) (all_done c past t) x h
 alone_owes c past t (Some Op.Write) x p h = by_effects (some_no c past t) (all_done c past t) x h
@@ -112,7 +107,7 @@ owes_first c past t v x e h =
     go Verdict.Single f g =
         let o : op (Tickets.ticket past t) ≡ op_of_fields fields = ap (λ (w : Verdict). op_by w fields) f in
         single o (alone_owes c past t (op (Tickets.ticket past t)) x (ap is_pair o ∙ not_pair fields) g)
-    go (Verdict.SingleFailed s) f g = same_if s x (one_owed s x 0 g)
+    go (Verdict.SingleFailed s) f g = same_if s x (one_at s x 0 g)
     go Verdict.Pair f g =
         let o : op (Tickets.ticket past t) ≡ Some Op.Pair = ap (λ (w : Verdict). op_by w fields) f in
         pair_first (some_no c past t && all_ended c past t) (all_done c past t) x

@@ -1,14 +1,12 @@
 -- The text of a refutation is read as that refutation.
-use Rattle.std.proofs.Common.{Bool, List, None, Some, [], ap, append-nil, append_assoc, arith, false, length, map}
-use Rattle.std.proofs.Common.{nat_lt, refl, slice_get, subst, sym, true, ℕ, ◌+◌, ◌++◌, ◌-◌, ◌<◌, ◌^◌, ◌∙◌, ◌∷◌, ◌≡◌}
+use Rattle.std.proofs.Common.{List, None, Some, [], ap, append-nil, append_assoc, arith, length, map}
+use Rattle.std.proofs.Common.{nat_lt, refl, slice_get, sym, true, ℕ, ◌+◌, ◌++◌, ◌-◌, ◌<◌, ◌^◌, ◌∙◌, ◌∷◌, ◌≡◌}
 use Rattle.std.specs.Prelude.{Ok, codes, decimal, if◌then◌else◌}
-use Rattle.std.specs.Char.{digit_value}
 use Rattle.std.specs.List.{AllByRecursion, join_with_byte, slice_split}
-use Rattle.std.specs.Str.Parse.{AllDigits}
 use Rattle.std.proofs.Math.Dec.{eqb}
-use Rattle.std.proofs.lemmas.Bool.{and_parts, eqb-true}
-use Rattle.std.proofs.lemmas.Fmt.{decimal_is_IsNumeral}
+use Rattle.std.proofs.lemmas.Bool.{and_parts}
 use Rattle.std.proofs.lemmas.List.{length-append}
+use Rattle.line_text.proofs.Feeds.{append_feedless, decimal_feedless}
 use Rattle.plain_lemmas.proofs.Lists.{at_last}
 use Rattle.line_text.specs.Lines.{with_feeds}
 use Rattle.line_text.specs.Number.{number_in}
@@ -22,22 +20,6 @@ use Rattle.refutation.specs.Texts.{count_of, read_all, read_counted, read_pieces
 use Rattle.refutation.specs.Texts.{refutation_text, then_read, words_of}
 
 -- ---- no line feed in a line
-
-digit_feedless : (c : ℕ) (b : Bool) → eqb c 10 ≡ b → digit_value c < 10 → b ≡ false
-digit_feedless c true e h =
-    let bad : digit_value 10 < 10 = subst (λ x. digit_value x < 10) (eqb-true c 10 e) h in absurd (omega arith)
-digit_feedless c false e h = refl
-
-digits_feedless : (cs : List ℕ) → AllDigits 10 cs → Without 10 cs
-digits_feedless [] h = tt
-digits_feedless (c ∷ cs) h = (digit_feedless c (eqb c 10) refl h.0, digits_feedless cs h.1)
-
-decimal_feedless : (n : ℕ) → n < 2 ^ 64 → Without 10 (decimal n)
-decimal_feedless n fits = digits_feedless (decimal n) (decimal_is_IsNumeral n fits).0.1
-
-append_feedless : (xs ys : List ℕ) → Without 10 xs → Without 10 ys → Without 10 (xs ++ ys)
-append_feedless [] ys p q = q
-append_feedless (x ∷ xs) ys p q = (p.0, append_feedless xs ys p.1 q)
 
 count_feedless : (n : ℕ) → n < 2 ^ 64 → Without 10 (count_line n)
 count_feedless n l =

@@ -7,6 +7,7 @@ use Rattle.std.specs.Str.{bytes_eq}
 use Rattle.std.proofs.lemmas.Bool.{and_parts}
 use Rattle.std.proofs.lemmas.List.{map-append, nil_from_length}
 use Rattle.std.proofs.lemmas.List.Splits.{join_with_byte-slice_split}
+use Rattle.line_text.proofs.Feeds.{feeds_append, feeds_none, feeds_one}
 use Rattle.plain_lemmas.proofs.Lists.{bytes_eq_true}
 use Rattle.line_text.specs.Lines.{with_feeds}
 use Rattle.line_text.specs.Number.{number_in}
@@ -15,7 +16,7 @@ use Rattle.refutation.specs.Refutations.{Refutation, may_add_block, may_add_comm
 use Rattle.refutation.specs.Texts.{and_block, and_command, and_line, and_words, block_line, command_line, count_line}
 use Rattle.refutation.specs.Texts.{count_of, read_all, read_counted, read_pieces, refutation_in, refutation_text}
 use Rattle.refutation.specs.Texts.{slice_text, then_read, words_of}
-use Rattle.refutation.proofs.Feeds.{feeds_append, feeds_none, feeds_one, text_is}
+use Rattle.refutation.proofs.Feeds.{text_is}
 
 -- the words of a line join to it
 words_join : (line : List ℕ) → join_with_byte 32 (words_of line) ≡ line

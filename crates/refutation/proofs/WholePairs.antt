@@ -2,6 +2,7 @@
 use Rattle.std.proofs.Common.{◌≡◌, ℕ, zero, suc, ◌+◌, ◌≤◌, true, false, ◌&&◌, cond, List, [], ◌∷◌, ◌++◌, Option, None}
 use Rattle.std.proofs.Common.{Some, slice_get, refl, sym, ap, ap₂, ◌∙◌, subst, inl, inr, arith, eqb, append_assoc}
 use Rattle.std.proofs.lemmas.Bool.{and_parts, cases_Bool, cases_lt, cond-true}
+use Rattle.ticket_laws.proofs.Counts.{taken_pair}
 use Rattle.nvme_model.specs.History.{Past}
 use Rattle.nvme_model.specs.Legal.{IsLegal}
 use Rattle.nvme_model.specs.Queues.{fetched_count, published_entries}
@@ -12,7 +13,6 @@ use Rattle.nvme_model.specs.Tickets.{Ticket, tickets}
 use Rattle.nvme_model.specs.Verdict.{command_fault, item_of, of_command, of_pair, pair_fault, taken_entries}
 use Rattle.nvme_model.specs.declared.config.ConfigNumbers.{ConfigNumbers}
 use Rattle.nvme_model.specs.declared.entry.Entry.{Entry}
-use Rattle.nvme_model.specs.declared.status.Status.{Status}
 use Rattle.nvme_model.specs.declared.status.Verdict.{Verdict}
 use Rattle.nvme_model.specs.declared.submission.Submission.{Submission}
 use Rattle.nvme_model.proofs.TakenEntries.{taken_two}
@@ -31,10 +31,6 @@ use Rattle.refutation.proofs.Lines.{published_seen, tidy_on}
 
 -- ---- how many a Fetch takes
 
-pair_takes : (o : Option (Status × Status)) → taken_entries (of_pair o) ≡ 2
-pair_takes None = refl
-pair_takes (Some s) = refl
-
 pub matched_takes_two : (c : ConfigNumbers) (a b : Submission) → eqb (fuse a) 1 ≡ true → eqb (fuse b) 2 ≡ true
     → taken_entries (verdict_at c a (Some b)) ≡ 2
 matched_takes_two c a b f g =
@@ -43,7 +39,7 @@ matched_takes_two c a b f g =
     (cond (eqb (fuse a) 2) (Verdict.SingleFailed missing_fused)
     (of_command (command_fault c.blocks [] (item_of a)))) f
     ∙ cond-true (eqb (fuse b) 2) pair (Verdict.SingleFailed missing_fused) g)
-    ∙ pair_takes (pair_fault c.atomic c.blocks [] (item_of a) (item_of b))
+    ∙ taken_pair (pair_fault c.atomic c.blocks [] (item_of a) (item_of b))
 
 pub alone_takes_one : (c : ConfigNumbers) (a : Submission) → taken_entries (verdict_at c a None) ≤ 1
 alone_takes_one c a = taken_few c [] a []

@@ -12,7 +12,7 @@ use Rattle.nvme_model.specs.declared.entry.BlockLine.{BlockLine}
 use Rattle.nvme_model.specs.declared.entry.Entry.{Entry}
 use Rattle.nvme_model.proofs.Beginnings.{earlier}
 use Rattle.nvme_model.proofs.Cut.{clash}
-use Rattle.host_laws.proofs.Elements.{In}
+use Rattle.host_laws.proofs.Elements.{In, all_from}
 use Rattle.refutation.specs.Orders
 use Rattle.refutation.specs.Orders.{IsOrder, IsWay, has, held_by, is_whole}
 use Rattle.refutation.specs.Pieces.{Slice}
@@ -39,7 +39,7 @@ use Rattle.refutation.proofs.OwnReaps.{aside_narrow}
 use Rattle.refutation.proofs.OwnRules.{reads_first}
 use Rattle.refutation.proofs.ReadLines.{same_tidy}
 use Rattle.refutation.proofs.ReadSlices.{same_slice}
-use Rattle.refutation.proofs.SliceLists.{AreDistinct, all_from, filter_holds, get_in, get_map, has_in, number_from}
+use Rattle.refutation.proofs.SliceLists.{AreDistinct, filter_holds, get_in, get_map, has_in, number_from}
 use Rattle.refutation.proofs.SliceLists.{number_get, of_get_map, of_numbers, of_once, once_distinct}
 use Rattle.refutation.proofs.SliceMade.{Walk, carried, is_skipped, made, number_at, same_with, slice_by}
 use Rattle.refutation.proofs.SliceMade.{with_number}

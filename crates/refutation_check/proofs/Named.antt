@@ -3,10 +3,11 @@ use Rattle.std.proofs.Common.{Bool, List, None, [], ap, arith, drop, drop-cons, 
 use Rattle.std.proofs.Common.{length, map, refl, subst, suc, sym, take, true, zero, ℕ, ◌&&◌, ◌+◌, ◌++◌, ◌-◌, ◌<◌, ◌≤◌}
 use Rattle.std.proofs.Common.{◌||◌, ◌∙◌}
 use Rattle.std.proofs.Common.{append_assoc, cond, ◌∷◌, ◌≡◌}
-use Rattle.std.proofs.lemmas.Bool.{and_parts, eqb-true, lt-ltb}
+use Rattle.std.proofs.lemmas.Bool.{lt-ltb}
 use Rattle.std.proofs.lemmas.List.{map-append, take_rest}
 use Rattle.std.specs.List.{range_with_len}
 use Rattle.std.specs.Prelude.{is_none, ◌==◌}
+use Rattle.refutation.proofs.SliceLists.{same_name}
 use Rattle.nvme_model.specs.Operations.{has_write, op}
 use Rattle.nvme_model.specs.declared.array.Range.{Range}
 use Rattle.nvme_model.specs.declared.config.ConfigNumbers.{ConfigNumbers}
@@ -21,16 +22,6 @@ use Rattle.refutation_check.specs.declared.order.Effect.{Effect}
 
 -- ---- each once
 
-one_effect : (a b : EffectName) → same_effect a b ≡ true → a ≡ b
-one_effect a b e =
-    let parts = and_parts ((a.queue == b.queue) && (a.number == b.number)) (a.unit == b.unit) e in
-    let first = and_parts (a.queue == b.queue) (a.number == b.number) parts.0 in
-    λ t. record {
-      queue = eqb-true a.queue b.queue first.0 t;
-      number = eqb-true a.number b.number first.1 t;
-      unit = eqb-true a.unit b.unit parts.1 t;
-    }
-
 -- the same effects are among them
 pub once_named : (ns : List EffectName) (n : EffectName) → is_named (each_once ns) n ≡ is_named ns n
 once_named [] n = refl
@@ -38,7 +29,7 @@ once_named (m ∷ ns) n = go (is_named (each_once ns) m) refl (once_named ns n)
   where
     by : (s : Bool) → same_effect m n ≡ s → is_named (each_once ns) m ≡ true
         → is_named (each_once ns) n ≡ is_named ns n → is_named (each_once ns) n ≡ (s || is_named ns n)
-    by true f e ih = subst (λ (x : EffectName). is_named (each_once ns) x ≡ true) (one_effect m n f) e
+    by true f e ih = subst (λ (x : EffectName). is_named (each_once ns) x ≡ true) (same_name m n f) e
     by false f e ih = ih
 
     go : (b : Bool) → is_named (each_once ns) m ≡ b → is_named (each_once ns) n ≡ is_named ns n

@@ -3,14 +3,15 @@ use Rattle.std.proofs.Common.{◌≡◌, ◌∙◌, ◌<◌, ◌≤◌, ◌&&◌
 use Rattle.std.proofs.Common.{ap, cond}
 use Rattle.std.proofs.Common.{eqb, eqb-true, false, inl, inr, le-leb, leb-true, length, length-append, lt-ltb, ltb-true}
 use Rattle.std.proofs.Common.{nat_le, nat_lt, refl, sym, true, ℕ}
-use Rattle.std.proofs.lemmas.Bool.{and_parts, cases_Bool, cases_lt, cond-false, cond-true}
+use Rattle.std.proofs.lemmas.Bool.{and_parts, cases_Bool, cases_lt, cond-false}
+use Rattle.refutation.proofs.QueueBooks.{before_all}
 use Rattle.nvme_model.specs.EntryBytes.{cqe_fields}
 use Rattle.nvme_model.specs.declared.entry.PublishLine.{PublishLine}
 use Rattle.trace.specs.declared.seen.Seen.{Seen}
 use Rattle.refutation.specs.Lines.{answered, before_entry, is_number, published_in}
 use Rattle.refutation.specs.Places
 use Rattle.refutation_check.specs.Answers
-use Rattle.refutation_check.specs.Answers.{entry_place, placed}
+use Rattle.refutation_check.specs.Answers.{entry_place}
 use Rattle.refutation_check.specs.declared.tables.EntryPlace.{EntryPlace}
 
 -- the line that answers an entry is the same number in both
@@ -67,12 +68,6 @@ no_place (Seen.Published p ∷ trace) q j l = go (eqb p.queue q) refl l (no_plac
         ∙ ih
 no_place (Seen.Reaped r ∷ trace) q j l = no_place trace q j l
 
-whole_before : (trace : List Seen) (q j : ℕ) → length (published_in trace q) ≤ j → before_entry trace q j ≡ trace
-whole_before [] q j l = refl
-whole_before (s ∷ trace) q j l =
-    cond-true (nat_le (length (published_in (s ∷ trace) q)) j) (s ∷ trace) (before_entry trace q j)
-    (le-leb (length (published_in (s ∷ trace) q)) j l)
-
 -- ---- entries that are
 
 placed_at : (trace : List Seen) (q j : ℕ) → j < length (published_in trace q)
@@ -120,7 +115,7 @@ placed_at (Seen.Published p ∷ trace) q j l = go (eqb p.queue q) refl l (λ m. 
             let low : length (published_in trace q) ≤ j = omega (arith, same, leb-true n j parts.0) in (
               record { line = length trace; place = j - n },
               refl,
-              ap length (sym (whole_before trace q j low)) ∙ ap length (sym step),
+              ap length (sym (before_all trace q j low)) ∙ ap length (sym step),
             )
         by false f same = elim (cases_lt j (length (published_in trace q))) [
           | inl k ↦ carried (entry_place trace q j) (ih k)
@@ -156,6 +151,6 @@ lines_by_place trace q j o e = elim (cases_lt j (length (published_in trace q)))
       let x = placed_at trace q j l in
       sym (ap (λ (y : Option EntryPlace). line_or y (length trace)) (e ∙ x.1) ∙ x.2)
   | inr l ↦
-      ap length (whole_before trace q j l)
+      ap length (before_all trace q j l)
       ∙ sym (ap (λ (y : Option EntryPlace). line_or y (length trace)) (e ∙ no_place trace q j l))
 ]

@@ -5,8 +5,9 @@ use Rattle.std.proofs.Common.{◌++◌, ◌-◌, ◌<◌, ◌≤◌, ◌==◌, �
 use Rattle.std.proofs.Common.{◌∙◌, ◌∷◌, ◌≡◌}
 use Rattle.std.specs.Prelude.{Err, Ok, OnOk, Result, is_none, nat_le, nat_lt, reverse}
 use Rattle.std.proofs.lemmas.Bool.{and_from, and_parts, and_right, cond-false, cond-true, eqb-false, eqb-true}
-use Rattle.std.proofs.lemmas.Bool.{false_from_ne_true, le-leb, leb-true, lt-ltb, ltb-true, true≢false}
+use Rattle.std.proofs.lemmas.Bool.{false_from_ne_true, le-leb, leb-true, lt-ltb, ltb-true}
 use Rattle.std.proofs.lemmas.List.{drop_all, length-append, length-reverse, reverse-append, take_more}
+use Rattle.plain_lemmas.proofs.Bools.{same_tests}
 use Rattle.nvme_model.specs.EntryBytes.{cqe_fields}
 use Rattle.nvme_model.specs.declared.entry.PublishLine.{PublishLine}
 use Rattle.nvme_model.specs.declared.submission.Submission.{Submission}
@@ -23,11 +24,6 @@ on_ok P (Ok x) p = p
 on_ok P (Err e) p = tt
 
 -- ---- a batch
-
-bool_same : (a b : Bool) → (a ≡ true → b ≡ true) → (b ≡ true → a ≡ true) → a ≡ b
-bool_same true b f g = sym (f refl)
-bool_same false true f g = absurd (true≢false (sym (g refl)))
-bool_same false false f g = refl
 
 -- no entry is among none
 none_of_none : (line q n : ℕ) (o : Option EntryPlace) (r j : ℕ) → o ≡ placed line q n 0 o r j
@@ -60,7 +56,7 @@ one_placed line q n i o r j = by (q == r) ((n + i) == j) refl
     by true false e =
         let unlike : n + i ≡ j → ⊥ = eqb-false _ _ e in
         ap (λ b. if nat_le n j && b then Some (record { line = line; place = j - n }) else o)
-        (bool_same (nat_lt j (n + i)) (nat_lt j (n + (i + 1)))
+        (same_tests (nat_lt j (n + i)) (nat_lt j (n + (i + 1)))
         (λ h. let l : j < n + i = ltb-true _ _ h in lt-ltb j (n + (i + 1)) (omega arith))
         (λ h. let l : j < n + (i + 1) = ltb-true _ _ h in
         lt-ltb j (n + i) (let other : j ≡ n + i → ⊥ = (λ s. unlike (sym s)) in omega arith)))

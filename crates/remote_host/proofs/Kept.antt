@@ -55,25 +55,20 @@ ended d e r contents fault h =
     let before = none_asked d h.before r contents h.turn.place h.turn.passed in
     (h.refused.5.cause, same_over d.port h.before e.port before h.refused.5.same)
 
+-- a port that is as it was has its queues as before
+same_port : (a b : RemotePort) → b ≡ a → SameQueues a b
+same_port a b e = record {
+  to_carry_is = ap (λ (p : RemotePort). to_carry p) e;
+  brought_is = ap (λ (p : RemotePort). brought p) e;
+}
+
 refused : (d e : Driver RemotePort ghosts) (r : Request) (contents : CallData) (f : Fault)
     → IsPortFault d e r contents f → SameQueues d.port e.port × ((f ≡ Fault.RingFull) ⊎ (f ≡ Fault.NoMemory))
 refused d e r contents Fault.RingFull h =
-    let port = none_asked d e.port r contents (length (queues_of d.cids)) h in (
-      record {
-        to_carry_is = ap (λ (p : RemotePort). to_carry p) port;
-        brought_is = ap (λ (p : RemotePort). brought p) port;
-      },
-      inl refl,
-    )
+    (same_port d.port e.port (none_asked d e.port r contents (length (queues_of d.cids)) h), inl refl)
 refused d e r contents Fault.Busy h =
     absurd (let a : PortFault.Busy ≡ PortFault.NoMemory = (ended d e r contents PortFault.Busy h).0 in cc)
-refused d e r contents Fault.NoMemory (inl x) = (
-  record {
-    to_carry_is = ap (λ (p : RemotePort). to_carry p) x.1;
-    brought_is = ap (λ (p : RemotePort). brought p) x.1;
-  },
-  inr refl,
-)
+refused d e r contents Fault.NoMemory (inl x) = (same_port d.port e.port x.1, inr refl)
 refused d e r contents Fault.NoMemory (inr x) = ((ended d e r contents PortFault.NoMemory x).1, inr refl)
 refused d e r contents Fault.Length h = absurd h
 refused d e r contents Fault.TooLong h = absurd h
@@ -87,7 +82,7 @@ at_once d e (Ok q) contents (Ok k) s =
     none_asked d k.start.value (record { op = q.op; slba = q.slba; blocks = q.blocks }) contents s.turn.place
     s.turn.passed
 at_once d e (Ok q) contents (Err f) s = refused d e q contents f s.1
-at_once d e (Err f) contents r s = tt
+at_once d e (Err f) contents r s = same_port d.port e.port s.1
 
 -- what is told where there was room
 pub tells : (d e : Driver RemotePort ghosts) (q : Result Request Fault) (contents : CallData)

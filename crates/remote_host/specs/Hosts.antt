@@ -30,12 +30,11 @@ pub record IsNewHost (host acwu : ℕ) (slots : Range) (queues : List ℕ) (h : 
   pub no_call : (n : ℕ) → get h.calls n ≡ None
 
 -- Where a call was begun, the port just before its Publish is the port that was: no submission queue is passed over for
--- want of room. Else the queues are as before, unless what was asked is at fault: of that the driver says no more than
--- that nothing was published.
+-- want of room. Else the queues are as before.
 abbrev pub IsAtOnce : RemotePort → RemotePort → Result Request Fault → Result (Call RemotePort) Fault → Type 0
 IsAtOnce a b (Ok q) (Ok k) = k.start.value ≡ a
 IsAtOnce a b (Ok q) (Err f) = SameQueues a b × ((f ≡ Fault.RingFull) ⊎ (f ≡ Fault.NoMemory))
-IsAtOnce a b (Err f) r = Unit {0}
+IsAtOnce a b (Err f) r = SameQueues a b
 
 -- a call was asked of the host's driver, and its number is told, or the driver's fault
 pub record HostStarts (h i : HostState) (asked : Result Request Fault) (contents : CallData) (told : Result ℕ Fault)

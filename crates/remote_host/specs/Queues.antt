@@ -1,5 +1,5 @@
 -- The two queues of a port, and what is done to them.
-use Rattle.std.specs.Prelude.{Err, List, None, Ok, Option, Result, Some, [], ℕ, ⊤, ◌++◌, ◌∷◌, ◌≡◌}
+use Rattle.std.specs.Prelude.{Err, List, None, Ok, Option, Result, Some, [], length, ℕ, ⊤, ◌++◌, ◌∷◌, ◌≡◌}
 use Rattle.std.specs.declared.alloc.AllocError.{AllocError}
 use Rattle.nvme_model.specs.declared.submission.Submission.{Submission}
 use Rattle.driver_calls.specs.declared.event.PortEvent.{PortEvent}
@@ -9,7 +9,7 @@ use Rattle.remote_host.specs.Events.{events_of}
 use Rattle.remote_host.specs.declared.port.Outgoing.{Outgoing}
 use Rattle.remote_host.specs.declared.port.RemotePort.{RemotePort}
 
--- the batches that were published and not taken away, the oldest first
+-- the entries that were published and not taken away, the oldest first
 abbrev pub to_carry : RemotePort → List Outgoing
 to_carry p = p.outgoing.items
 
@@ -22,6 +22,11 @@ pub record SameQueues (a b : RemotePort) : Type 0 where
   pub to_carry_is : to_carry b ≡ to_carry a
   pub brought_is : brought b ≡ brought a
 
+-- the entries of a batch to this submission queue, each with the count of those behind it
+abbrev pub entries_of : ℕ → List Submission → List Outgoing
+entries_of queue [] = []
+entries_of queue (s ∷ batch) = record { queue = queue; submission = s; more = length batch } ∷ entries_of queue batch
+
 -- nothing is to be taken away or reaped, and it did nothing
 pub record IsEmptyPort (p : RemotePort) : Type 0 where
   pub to_carry_none : to_carry p ≡ []
@@ -33,9 +38,9 @@ pub record IsLater (a b : RemotePort) : Type 0 where
   pub more : List PortEvent
   pub is : events_of b ≡ more ++ events_of a
 
--- the batch stands behind those that are to be taken away
+-- the entries of the batch stand behind those that are to be taken away
 pub record IsPublished (a b : RemotePort) (queue : ℕ) (batch : List Submission) : Type 0 where
-  pub to_carry_is : to_carry b ≡ to_carry a ++ record { queue = queue; batch = batch } ∷ []
+  pub to_carry_is : to_carry b ≡ to_carry a ++ entries_of queue batch
   pub brought_is : brought b ≡ brought a
 
 -- nothing but want of memory refuses a batch, and nothing has changed
@@ -51,7 +56,7 @@ IsReap a b (Ok None) = (brought a ≡ []) × SameQueues a b
 IsReap a b (Ok (Some r)) = (brought a ≡ r ∷ brought b) × (to_carry b ≡ to_carry a)
 IsReap a b (Err f) = ⊥
 
--- the batch that was published first is taken away; where there is none, none is
+-- the entry that was published first is taken away; where there is none, none is
 abbrev pub IsTakenAway : RemotePort → RemotePort → Option Outgoing → Type 0
 IsTakenAway a b None = (to_carry a ≡ []) × SameQueues a b
 IsTakenAway a b (Some o) = (to_carry a ≡ o ∷ to_carry b) × (brought b ≡ brought a)

@@ -2,6 +2,7 @@
 
 use crate::host::RemoteHost;
 use crate::polled::Polled;
+use crate::port::Outgoing;
 use driver_cas::{Fault, Reply};
 use nvme_model::array::Range;
 use nvme_model::submission::{Payload, Submission};
@@ -38,20 +39,26 @@ const COMPARE: u8 = 0x05;
 
 const WRITE: u8 = 0x01;
 
-/// A batch that was taken away: its submission queue, how many entries it has, and its first two.
+/// An entry that was taken away: its submission queue, how it begins, and how many stand behind it in its batch.
 #[derive(Clone, Copy, Debug, PartialEq, Eq)]
 struct Sent {
     queue: u16,
-    count: usize,
-    first: Head,
-    second: Option<Head>,
+    head: Head,
+    more: usize,
 }
 
-/// A host with one submission queue, of number 1.
+/// A host with one submission queue, of number 1, and no slot. Its pairs have two blocks at most.
 fn host_of(alloc: Global) -> Result<RemoteHost, Fail> {
     let none = Range { slba: 0, blocks: 0 };
     let queues = [1].to_vec(alloc)?;
     Ok(RemoteHost::new(alloc, 1, 1, none, queues)?)
+}
+
+/// The same with two submission queues, and slots at blocks 8 and 9.
+fn host_of_two(alloc: Global) -> Result<RemoteHost, Fail> {
+    let slots = Range { slba: 8, blocks: 2 };
+    let queues = [1, 2].to_vec(alloc)?;
+    Ok(RemoteHost::new(alloc, 1, 1, slots, queues)?)
 }
 
 fn head_of(one: &Submission) -> Head {
@@ -62,16 +69,19 @@ fn head_of(one: &Submission) -> Head {
     }
 }
 
-/// The next batch.
+fn sent_of(outgoing: &Outgoing) -> Sent {
+    Sent {
+        queue: outgoing.queue,
+        head: head_of(&outgoing.submission),
+        more: outgoing.more,
+    }
+}
+
+/// The next entry, where it was told to be the next before it was taken away.
 fn taken(host: &mut RemoteHost) -> Option<Sent> {
-    let sent = host.outgoing()?;
-    let items = sent.batch.as_slice();
-    Some(Sent {
-        queue: sent.queue,
-        count: items.len(),
-        first: head_of(items.first()?),
-        second: items.get(1).map(head_of),
-    })
+    let told = host.peek().map(sent_of);
+    let sent = sent_of(&host.outgoing()?);
+    if told == Some(sent) { Some(sent) } else { None }
 }
 
 /// A completion with success for the command with this CID of submission queue 1 (Base 2.0, Completion Queue Entry).
@@ -137,11 +147,12 @@ fn one(opcode: u8, cid: u8) -> Head {
     }
 }
 
-/// What three calls are numbered, and the batches that are taken away then.
-fn batches(alloc: Global) -> Result<([Result<u32, Fault>; 3], [Option<Sent>; 4]), Fail> {
+/// What three calls are numbered, and the entries that are taken away then.
+fn entries(alloc: Global) -> Result<([Result<u32, Fault>; 3], [Option<Sent>; 5]), Fail> {
     let mut host = host_of(alloc)?;
     let begun = three_begin(&mut host);
     let sent = [
+        taken(&mut host),
         taken(&mut host),
         taken(&mut host),
         taken(&mut host),
@@ -150,33 +161,38 @@ fn batches(alloc: Global) -> Result<([Result<u32, Fault>; 3], [Option<Sent>; 4])
     Ok((begun, sent))
 }
 
-#[test]
-fn batches_are_taken_away_in_order(rt: HostRuntime) -> Result<(), Fail> {
-    let (begun, sent) = batches(rt.alloc())?;
-    assert_eq!(rt; begun, [Ok(0), Ok(1), Ok(2)]);
-    let single = |cid| {
-        Some(Sent {
-            queue: 1,
-            count: 1,
-            first: one(READ, cid),
-            second: None,
-        })
-    };
-    let pair = Some(Sent {
+fn read(cid: u8) -> Option<Sent> {
+    Some(Sent {
         queue: 1,
-        count: 2,
-        first: Head {
-            opcode: COMPARE,
-            fuse: 1,
-            cid: 2,
-        },
-        second: Some(Head {
-            opcode: WRITE,
-            fuse: 2,
-            cid: 3,
-        }),
-    });
-    assert_eq!(rt; sent, [single(0), single(1), pair, None]);
+        head: one(READ, cid),
+        more: 0,
+    })
+}
+
+/// An entry of a fused pair.
+fn half(opcode: u8, fuse: u8, cid: u8, more: usize) -> Option<Sent> {
+    let head = Head { opcode, fuse, cid };
+    Some(Sent {
+        queue: 1,
+        head,
+        more,
+    })
+}
+
+#[test]
+fn entries_are_taken_away_in_order(rt: HostRuntime) -> Result<(), Fail> {
+    let (begun, sent) = entries(rt.alloc())?;
+    assert_eq!(rt; begun, [Ok(0), Ok(1), Ok(2)]);
+    assert_eq!(rt;
+        sent,
+        [
+            read(0),
+            read(1),
+            half(COMPARE, 1, 2, 1),
+            half(WRITE, 2, 3, 0),
+            None,
+        ]
+    );
     Ok(())
 }
 
@@ -220,8 +236,9 @@ fn each_call_is_told_its_own(rt: HostRuntime) -> Result<(), Fail> {
 }
 
 /// What polls of the second of two Reads tell, and then of the first: behind that of the first came one that no call is
-/// owed, one with a reserved bit, and that of the first again with other data.
-fn drops(alloc: Global) -> Result<[Told; 6], Fail> {
+/// owed, one with a reserved bit, and that of the first again with other data. And how many are counted as dropped,
+/// before the first poll and behind the last.
+fn drops(alloc: Global) -> Result<([Told; 6], [u64; 2]), Fail> {
     let mut host = host_of(alloc)?;
     let _ = (host.start_read(0, 1), host.start_read(1, 1));
     let came = brings(alloc, &mut host, good(0), &[0xa1; 512])
@@ -232,19 +249,22 @@ fn drops(alloc: Global) -> Result<[Told; 6], Fail> {
     if !came {
         return Err(Fail::from("no memory"));
     }
-    Ok([
+    let before = host.dropped();
+    let told = [
         polled(&mut host, 1),
         polled(&mut host, 1),
         polled(&mut host, 1),
         polled(&mut host, 1),
         polled(&mut host, 1),
         polled(&mut host, 0),
-    ])
+    ];
+    Ok((told, [before, host.dropped()]))
 }
 
 #[test]
 fn what_nobody_is_owed_changes_nothing(rt: HostRuntime) -> Result<(), Fail> {
-    let told = drops(rt.alloc())?;
+    let (told, dropped) = drops(rt.alloc())?;
+    assert_eq!(rt; dropped, [0, 3]);
     assert_eq!(rt;
         told,
         [
@@ -305,6 +325,45 @@ fn fills(alloc: Global) -> Result<[Result<u32, Fault>; 4], Fail> {
         host.start_write_zeroes(0, 257),
         host.start_write(0, &[0; 511]),
     ])
+}
+
+/// Why nothing begins that would write into slots 8 and 9, has data of unlike lengths, or is a pair of three blocks.
+/// Then the submission queues of the 64th and the 65th of a host's commands.
+fn limits(alloc: Global) -> Result<([Result<u32, Fault>; 4], [Option<u16>; 2]), Fail> {
+    let mut host = host_of_two(alloc)?;
+    let refused = [
+        host.start_write(9, &[0xa1; 512]),
+        host.start_write_zeroes(7, 2),
+        host.start_compare_and_write(0, &[0xa1; 512], &[0xb2; 1024]),
+        host.start_compare_and_write(0, &[0xa1; 1536], &[0xb2; 1536]),
+    ];
+    for _ in 0..65 {
+        let _ = host.start_compare(9, &[0xa1; 512]);
+    }
+    for _ in 0..63 {
+        let _ = host.outgoing();
+    }
+    let queues = [
+        taken(&mut host).map(|it| it.queue),
+        taken(&mut host).map(|it| it.queue),
+    ];
+    Ok((refused, queues))
+}
+
+#[test]
+fn what_is_asked_has_limits(rt: HostRuntime) -> Result<(), Fail> {
+    let (refused, queues) = limits(rt.alloc())?;
+    assert_eq!(rt;
+        refused,
+        [
+            Err(Fault::SlotArea),
+            Err(Fault::SlotArea),
+            Err(Fault::Length),
+            Err(Fault::TooLong),
+        ]
+    );
+    assert_eq!(rt; queues, [Some(1), Some(2)]);
+    Ok(())
 }
 
 #[test]

@@ -1,4 +1,4 @@
-//! What is done at the port of a driver that owns it: a batch is taken away, or a completion is brought.
+//! What is done at the port of a driver that owns it: an entry is taken away, or a completion is brought.
 
 ghost use Rattle.remote_host.specs.Queues.{IsBrought, IsTakenAway};
 
@@ -7,7 +7,7 @@ use driver_cas::Attendance;
 use nvme_model::submission::Payload;
 use std::alloc::AllocError as NoMemory;
 
-/// Takes away the batch that was published first of those that are there.
+/// Takes away the entry that was published first of those that are there.
 #[derive(Drop)]
 pub struct TakeAway;
 

@@ -1,7 +1,7 @@
 //! A host of a controller that is somewhere else.
 
 ghost use Rattle.std.specs.List.Sorted.{IsStrictlyIncreasing};
-ghost use Rattle.std.specs.Prelude.{◌≡◌, ◌≤◌, ◌+◌, ◌*◌, IfOk, [], length};
+ghost use Rattle.std.specs.Prelude.{◌≡◌, ◌≤◌, ◌+◌, ◌*◌, IfOk, [], length, option_copied, slice_get};
 ghost use Rattle.driver_calls.specs.declared.request.CallData.{CallData};
 ghost use Rattle.driver_cas.specs.Requests.{pair_request_of, request_of};
 ghost use Rattle.nvme_model.specs.declared.operation.Op.{Op};
@@ -41,10 +41,11 @@ impl Model for RemoteHost {
 }
 
 impl RemoteHost {
-    ghost use Rattle.driver_cas.specs.Drivers.{acwu_of, area_of, port_of};
+    ghost use Rattle.driver_cas.specs.Drivers.{acwu_of, area_of, made, port_of};
+    ghost use Rattle.driver_cas.specs.Dropped.{drop_count};
     ghost use Rattle.driver_cas.specs.Starts.{IsUntouched};
     ghost use Rattle.remote_host.specs.Hosts.{IsHandedIn, IsNewHost, PollTells, StartTells};
-    ghost use Rattle.remote_host.specs.Queues.{IsTakenAway};
+    ghost use Rattle.remote_host.specs.Queues.{IsTakenAway, to_carry};
 
     /// A host with this number, from 1 on, on these submission queues in rising order. No call is in flight. A Compare
     /// and Write has at most `acwu` and one blocks (0's based). No start call writes to blocks of `slots`, which may be
@@ -169,8 +170,8 @@ impl RemoteHost {
     }
 
     /// Polls the call with this number; None where no call has it. Reaps at most one of the completions that were
-    /// brought, of this call or of another; one that no call is owed is dropped. A call that is answered has no number
-    /// any more.
+    /// brought, of this call or of another; one that no call is owed is dropped, and counted. A call that is answered
+    /// has no number any more.
     pub fn poll(&mut self, number: u32) -> Option<Polled>
         ensures { PollTells self.old self.new number result }
     {
@@ -179,8 +180,22 @@ impl RemoteHost {
         Some(put_back(&mut self.calls, poll))
     }
 
-    /// Takes away the batch that was published first of those that are there, to be carried to the controller; None
-    /// where there is none.
+    /// How many of the completions that were reaped no command waited for.
+    pub fn dropped(&self) -> u64
+        ensures { result ≡ drop_count (made self.now.driver) }
+    {
+        self.driver.dropped()
+    }
+
+    /// The entry that is to be carried to the controller next, where it stays; None where there is none.
+    pub fn peek(&self) -> Option<&Outgoing>
+        ensures { option_copied result ≡ slice_get (to_carry (port_of self.now.driver)) 0 }
+    {
+        self.driver.port().peek()
+    }
+
+    /// Takes away the entry that was published first of those that are there, to be carried to the controller; None
+    /// where there is none. The two of a fused pair stand one behind the other.
     pub fn outgoing(&mut self) -> Option<Outgoing>
         ensures untouched { IsUntouched self.old.driver self.new.driver }
         ensures calls { self.new.calls ≡ self.old.calls }
@@ -191,7 +206,7 @@ impl RemoteHost {
 
     /// Brings a completion of the controller, with what a successful Read read, else an empty payload. A poll reaps it
     /// behind those that were brought before. It counts for the call that has its CID then: bring each once, and none
-    /// before its batch was taken away.
+    /// before its entry was taken away.
     ///
     /// # Errors
     ///

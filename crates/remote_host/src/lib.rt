@@ -1,5 +1,5 @@
 //! A host of a controller that is somewhere else, for whoever carries its commands: a driver over two queues in memory.
-//! The carrier takes each batch away by `RemoteHost::outgoing` and brings each completion by `RemoteHost::incoming`,
+//! The carrier takes each entry away by `RemoteHost::outgoing` and brings each completion by `RemoteHost::incoming`,
 //! over any transport. Nothing here waits or calls back.
 #![tactic(auto)]
 

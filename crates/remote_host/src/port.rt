@@ -1,11 +1,12 @@
 //! The port of a controller that is somewhere else: two queues in memory.
 
-ghost use Rattle.std.specs.Prelude.{◌≡◌};
+ghost use Rattle.std.specs.Prelude.{◌++◌, ◌+◌, ◌≡◌, ◌≤◌, length, option_copied, slice_get};
+ghost use Rattle.std.specs.VecDeque.{deque_capacity, deque_len};
 ghost use Rattle.remote_host.specs.Events.{events_of};
-ghost use Rattle.remote_host.specs.Queues.{IsBrought, IsEmptyPort, IsTakenAway};
+ghost use Rattle.remote_host.specs.Queues.{IsBrought, IsEmptyPort, IsTakenAway, entries_of, to_carry};
 
 use driver_cas::{Port, PortFault, Reaped};
-use nvme_model::submission::{Payload, Submissions};
+use nvme_model::submission::{Payload, Submission, Submissions};
 use std::alloc::{AllocError as NoMemory, Global};
 use std::collections::VecDeque;
 use std::mem;
@@ -19,15 +20,18 @@ pub(crate) enum Done {
     Got(Snapshot<Done>, [u8; 16], Snapshot<Payload>),
 }
 
-/// A batch on its way to the controller: one entry, or the two of a fused pair.
+/// An entry on its way to the controller, with the data beside it.
 #[derive(Debug, Drop)]
 pub struct Outgoing {
+    /// The submission queue that it was published to.
     pub queue: u16,
-    pub batch: Submissions,
+    pub submission: Submission,
+    /// How many entries stand behind it in its batch: 1 of the first of a fused pair, else 0.
+    pub more: usize,
 }
 
 /// The port of a driver whose controller is somewhere else. It keeps what was published until that is taken away, and
-/// what was brought until it is reaped, each in order. Each of its functions costs a constant, amortised.
+/// what was brought until it is reaped, each in order. Each of its functions costs a constant for an entry, amortised.
 #[derive(Drop)]
 pub struct RemotePort {
     // Published and not taken away, the oldest first.
@@ -35,6 +39,22 @@ pub struct RemotePort {
     // Brought and not reaped, the oldest first.
     pub(crate) incoming: VecDeque<Reaped>,
     pub(crate) done: Snapshot<Done>,
+}
+
+// Puts the entries of a batch behind those that are to be taken away.
+fn push_all(outgoing: &mut VecDeque<Outgoing>, queue: u16, batch: Vec<Submission>)
+    requires { deque_len outgoing.old + length batch.items ≤ deque_capacity outgoing.old }
+    ensures { outgoing.new.items ≡ outgoing.old.items ++ entries_of queue batch.items }
+{
+    let mut more = batch.len();
+    for submission in batch {
+        more -= 1;
+        outgoing.push_back_reserved(Outgoing {
+            queue,
+            submission,
+            more,
+        });
+    }
 }
 
 impl RemotePort {
@@ -49,7 +69,14 @@ impl RemotePort {
         }
     }
 
-    /// Takes away the batch that was published first of those that are there; None where there is none.
+    /// The entry that is to be taken away next; None where there is none.
+    pub fn peek(&self) -> Option<&Outgoing>
+        ensures { option_copied result ≡ slice_get (to_carry self.now) 0 }
+    {
+        self.outgoing.front()
+    }
+
+    /// Takes away the entry that was published first of those that are there; None where there is none.
     pub fn take_away(&mut self) -> Option<Outgoing>
         ensures taken { IsTakenAway self.old self.new result }
         ensures log { events_of self.new ≡ events_of self.old }
@@ -98,12 +125,12 @@ impl Port for RemotePort {
     ghost says = { λ before start now queue number op answer. Unit {0} };
 
     fn publish(&mut self, queue: u16, batch: Submissions) -> Result<(), (PortFault, Submissions)> {
-        if let Err(_) = self.outgoing.reserve(1) {
+        if let Err(_) = self.outgoing.reserve(batch.as_slice().len()) {
             return Err((PortFault::NoMemory, batch));
         }
         let earlier = mem::replace(&mut self.done, Snapshot::of(&Done::Nothing));
         self.done = Snapshot::of(&Done::Sent(earlier, queue, Snapshot::of(&batch)));
-        self.outgoing.push_back_reserved(Outgoing { queue, batch });
+        push_all(&mut self.outgoing, queue, batch.into_vec());
         Ok(())
     }
 

@@ -1,8 +1,7 @@
 //! Random scripts of one seed, one of each kind, which are the same on every machine.
 
 use history::PrintFault;
-use random_numbers::RandomNumbers;
-use random_script::{ScriptKind, draw_config, write_random};
+use random_script::{RandomNumbers, ScriptKind, draw_config, write_random};
 use std::io::Write;
 
 const SEED: u64 = 47;

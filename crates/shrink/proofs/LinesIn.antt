@@ -4,7 +4,7 @@ use Rattle.std.proofs.Common.{eq-eqb, false, true≢false, ℕ, ◌++◌, ◌==�
 use Rattle.std.proofs.KnownBytes.{Consumes-trans}
 use Rattle.std.specs.Prelude.{IfSome}
 use Rattle.std.specs.Io.KnownBytes.{IsAtEnd}
-use Rattle.history.proofs.LinesOut.{feeds_none}
+use Rattle.line_text.proofs.Feeds.{feeds_none}
 use Rattle.line_text.specs.Lines.{GivesBytes, Loses, NoFeed, with_feeds}
 use Rattle.shrink.specs.Reading.{IsBadEnd}
 

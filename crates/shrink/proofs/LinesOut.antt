@@ -4,7 +4,8 @@ use Rattle.std.proofs.Common.{sym, ℕ, ◌+◌, ◌++◌, ◌<◌, ◌∙◌, �
 use Rattle.std.proofs.lemmas.List.{drop_all, drop_more}
 use Rattle.std.proofs.KnownBytes.{Appends-trans}
 use Rattle.std.specs.Io.KnownBytes.{Appends}
-use Rattle.history.proofs.LinesOut.{feeds_next, feeds_none}
+use Rattle.line_text.proofs.Feeds.{feeds_none}
+use Rattle.history.proofs.LinesOut.{feeds_next}
 use Rattle.line_text.specs.Known.{AppendsFront}
 use Rattle.line_text.specs.Lines.{with_feeds}
 use Rattle.line_text.proofs.Known.{front_at}

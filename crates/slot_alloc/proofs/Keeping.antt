@@ -104,7 +104,7 @@ module _ {P : Type 0} (g : Ghosts P) where
       → (KeepsSlotRules d → KeepsSlotRules e) × DriverContinues d e None
   start_kept d e (Err f) contents r same later sound s =
       let settings = settings_of g d e same in
-      (slot_rules_same g d e settings same.serial s.1.0, goes_on_same g d e settings same.serial later s.1.0)
+      (slot_rules_same g d e settings same.serial s.2.0, goes_on_same g d e settings same.serial later s.2.0)
   start_kept d e (Ok q) contents (Err f) same later sound s =
       let settings = settings_of g d e same in
       (slot_rules_same g d e settings same.serial s.0.0, goes_on_same g d e settings same.serial later s.0.0)

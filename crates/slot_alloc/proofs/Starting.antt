@@ -3,6 +3,7 @@ use Rattle.std.proofs.Common.{List, None, Option, Some, arith, ap, false, length
 use Rattle.std.proofs.Common.{◌∷◌, ◌≡◌, ◌≤◌}
 use Rattle.std.specs.Prelude.{Ok}
 use Rattle.std.specs.declared.snapshot.Snapshot.{Snapshot}
+use Rattle.plain_lemmas.proofs.Options.{some_one}
 use Rattle.nvme_model.specs.Array.{has_block}
 use Rattle.nvme_model.specs.declared.operation.Op.{Op}
 use Rattle.driver_calls.specs.Log.{newest, sent}
@@ -28,9 +29,6 @@ use Rattle.slot_alloc.specs.SlotRules.{own_name}
 use Rattle.slot_alloc.specs.Claims.{IsAsking}
 use Rattle.slot_alloc.proofs.Logs.{claim_on, same_on}
 
-some_same : (a b : ℕ) → Some a ≡ Some b → a ≡ b
-some_same a b h = cc
-
 module _ {P : Type 0} (g : Ghosts P) where
   pub settings_of : (d e : Driver P g) → IsSameDriver d e → HasSettings d e
   settings_of d e s = record { began = s.began; host = s.host; acwu = s.acwu; slots = s.slots; queues = s.queues }
@@ -49,7 +47,7 @@ module _ {P : Type 0} (g : Ghosts P) where
       (sent_call (made d) k.queue l 1 k.first k.second Op.Pair contents s.batch s.free.unlike s.is).1 in
       let of : newest (made e) k.queue k.first ≡ Some (number_of e k) =
       (subst (λ (o : Op). IsCallIn (made e) k.queue o k.first k.second (number_of e k)) s.does s.of.published).1 in
-      some_same (number_of e k) (length (sent (made d) k.queue))
+      some_one (number_of e k) (length (sent (made d) k.queue))
       (sym of ∙ (ap (λ (log : List PortEvent). newest log k.queue k.first) s.published ∙ there))
 
   -- ---- nothing was published

@@ -19,7 +19,7 @@ use Rattle.driver_calls.specs.declared.event.PortEvent.{PortEvent}
 use Rattle.driver_calls.specs.declared.reply.Reply.{Reply}
 
 -- the premise held before
-alone_before : (before : List PortEvent) (a b : PortView) → ViewFollows a b → IsAlone before b → IsAlone before a
+pub alone_before : (before : List PortEvent) (a b : PortView) → ViewFollows a b → IsAlone before b → IsAlone before a
 alone_before before a b f h =
     record {
       none = h.none;
@@ -33,7 +33,7 @@ alone_before before a b f h =
     }
 
 -- what was seen then is the end of what is seen now
-grown : (a b : PortView) (f : ViewFollows a b) → entries b.seen ≡ entries f.goes_on.0 ++ entries a.seen
+pub grown : (a b : PortView) (f : ViewFollows a b) → entries b.seen ≡ entries f.goes_on.0 ++ entries a.seen
 grown a b f = sym (λ i. entries (f.goes_on.1 i)) ∙ entries_append f.goes_on.0 a.seen
 
 legal_grown : (a b : PortView) (f : ViewFollows a b) → IsLegal b.config (entries b.seen)

@@ -28,3 +28,25 @@ impl Claim {
         (slot, serial)
     }
 }
+
+/// A claim that may be dropped: its slot then stays held.
+pub struct KeptClaim {
+    pub claim: Claim,
+}
+
+impl Drop for KeptClaim {
+    fn drop(self) {
+        let KeptClaim { claim } = self;
+        let _ = claim.leave();
+    }
+}
+
+impl KeptClaim {
+    /// The claim, to be released.
+    pub fn into_claim(self) -> Claim
+        ensures { result ≡ self.claim }
+    {
+        let KeptClaim { claim } = self;
+        claim
+    }
+}

@@ -9,7 +9,7 @@ mod progress;
 mod release;
 mod slots;
 
-pub use claim::Claim;
+pub use claim::{Claim, KeptClaim};
 pub use claiming::Claiming;
 pub use poll::poll_claim;
 pub use progress::{Progress, Released};

@@ -5,6 +5,7 @@ use Rattle.std.specs.List.{find, list_all, list_any}
 use Rattle.std.specs.Option.{option_map}
 use Rattle.std.proofs.lemmas.Bool.{and_parts}
 use Rattle.std.proofs.lemmas.List.Elements.{filter-append}
+use Rattle.plain_lemmas.proofs.Bools.{same_tests}
 use Rattle.nvme_model.specs.Array.{has_block}
 use Rattle.nvme_model.specs.Config.{completion_queue}
 use Rattle.nvme_model.specs.History.{Past}
@@ -31,7 +32,7 @@ use Rattle.slot_check.specs.Names.{KeptNames, KnowsNames}
 use Rattle.slot_check.specs.Takeovers.{KeptTakeovers, KnowsTakeovers, begins_at, begun_by, cut_by}
 use Rattle.slot_check.specs.Watched.{IsSlotCheckState, SlotCheckState}
 use Rattle.slot_check.proofs.Judging.{given_is}
-use Rattle.slot_check.proofs.Standing.{same_bools, untaken_on, untaken_published}
+use Rattle.slot_check.proofs.Standing.{untaken_on, untaken_published}
 
 -- ---- the dead name of a takeover was given its slot before
 
@@ -148,7 +149,7 @@ cuts_same c slots past p q w d i = go (has_block slots w.lba) refl
         → (b && is_given_on c (Entry.Publish p ∷ past) q w.lba w.dead) ≡ (b && is_given_on c past q w.lba w.dead)
     go false e = refl
     go true e =
-        same_bools _ _ (forth e) (given_later c (Entry.Publish p ∷ []) past q w.lba w.dead)
+        same_tests _ _ (forth e) (given_later c (Entry.Publish p ∷ []) past q w.lba w.dead)
 
 find_same : (test other : Takeover → Bool) (ws : List Takeover)
     → ((w : Takeover) → In w ws → test w ≡ other w) → find test ws ≡ find other ws

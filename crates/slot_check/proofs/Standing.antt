@@ -1,7 +1,8 @@
 -- Which takeovers took effect, one entry later.
 use Rattle.nvme_model.specs.Tickets
-use Rattle.std.proofs.Common.{◌≡◌, ℕ, ◌≤◌, Bool, true, false, [], ◌∷◌, refl, sym, ap, ◌∙◌, arith, subst}
+use Rattle.std.proofs.Common.{◌≡◌, ℕ, ◌≤◌, true, false, [], ◌∷◌, refl, sym, ap, ◌∙◌, arith, subst}
 use Rattle.std.proofs.Common.{Some, None, Option, inl, inr, length}
+use Rattle.plain_lemmas.proofs.Bools.{same_tests}
 use Rattle.ticket_laws.proofs.Counts.{fetched_within}
 use Rattle.ticket_laws.proofs.Later.{tickets_later}
 use Rattle.nvme_model.specs.History.{Past}
@@ -27,11 +28,6 @@ use Rattle.host_laws.proofs.TicketsApart.{within_fetched}
 use Rattle.host_laws.specs.Takeovers.{Takeover, is_taken, takeovers, takeovers_in, took_effect}
 use Rattle.host_laws.proofs.Taking.{TookBy, taken_from, taken_later, taken_parts, took_from, took_parts}
 use Rattle.slot_check.proofs.NewTakeovers.{new_in, new_takeovers}
-
-pub same_bools : (a b : Bool) → (a ≡ true → b ≡ true) → (b ≡ true → a ≡ true) → a ≡ b
-same_bools true b f g = sym (f refl)
-same_bools false true f g = g refl
-same_bools false false f g = refl
 
 -- the ticket of an effect was fetched
 effect_known : (c : ConfigNumbers) (past : Past) (t u : ℕ) (e : Past) → IsLegal c past → effect past t u ≡ Some e
@@ -76,7 +72,7 @@ pub untaken_on : (c : ConfigNumbers) (e : Entry) (past : Past) (l : ℕ) (n : Na
     → ((w : Takeover) → In w (takeovers (e ∷ past)) → took_effect past w.queue w.number ≡ true → In w (takeovers past))
     → is_taken (e ∷ past) l n ≡ is_taken past l n
 untaken_on c e past l n h same there =
-    same_bools (is_taken (e ∷ past) l n) (is_taken past l n) forth (taken_later c (e ∷ []) past l n h)
+    same_tests (is_taken (e ∷ past) l n) (is_taken past l n) forth (taken_later c (e ∷ []) past l n h)
   where
     forth : is_taken (e ∷ past) l n ≡ true → is_taken past l n ≡ true
     forth f =

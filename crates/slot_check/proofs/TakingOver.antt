@@ -10,6 +10,7 @@ use Rattle.std.specs.List.{find, list_all, list_any}
 use Rattle.std.specs.Str.{bytes_eq}
 use Rattle.std.proofs.lemmas.Bool.{and_from, and_parts, cases_Bool, cond-false, not-false, or_cases, or_left, or_parts}
 use Rattle.std.proofs.lemmas.Bool.{not-true, or_right}
+use Rattle.plain_lemmas.proofs.Bools.{same_tests}
 use Rattle.nvme_model.specs.Array.{blocks_from, has_block}
 use Rattle.nvme_model.specs.Answered.{may_find, right_answers}
 use Rattle.nvme_model.specs.EntryBytes.{Sqe, block_count, slba, sqe_fields}
@@ -54,7 +55,7 @@ use Rattle.host_laws.proofs.Taking.{TakenBy, TookBy, taken_from, taken_later, ta
 use Rattle.slot_check.specs.Progress.{KeptProgress, KnowsProgress, flying_of}
 use Rattle.slot_check.specs.Takeovers.{KeptTakeovers, KnowsTakeovers, begins_at, takes_name}
 use Rattle.slot_check.specs.declared.progress.Flying.{Flying}
-use Rattle.slot_check.proofs.Standing.{same_bools, took_before}
+use Rattle.slot_check.proofs.Standing.{took_before}
 
 -- ---- an effect of a pair of one block says yes where no compare differed
 
@@ -345,7 +346,7 @@ module _ (c : ConfigNumbers) (past : Past) (b : BlockLine) (h : IsLegal c (Entry
     pub taken_now : (l : ℕ) (n : Name) → has_block slots l ≡ true
         → (((b.effect && not (is_differs b.found)) && Hit l n) || is_taken past l n)
         ≡ is_taken (Entry.Block b ∷ past) l n
-    taken_now l n v = same_bools _ _ (λ y. elim (or_cases _ _ y) [
+    taken_now l n v = same_tests _ _ (λ y. elim (or_cases _ _ y) [
       | inl z ↦
           let a = and_parts (b.effect && not (is_differs b.found)) (Hit l n) z in
           let d = and_parts b.effect (not (is_differs b.found)) a.0 in

@@ -5,6 +5,7 @@ use Rattle.std.specs.Prelude.{bytes_eq, is_some, nat_le}
 use Rattle.std.specs.List.{flat_map, list_all}
 use Rattle.std.proofs.lemmas.Bool.{and_parts}
 use Rattle.std.proofs.lemmas.List.{append-nil}
+use Rattle.slot_alloc.proofs.Taking.{alone_before, grown}
 use Rattle.plain_lemmas.proofs.Lists.{bytes_eq_true}
 use Rattle.nvme_model.specs.Array.{blocks_from, zeros}
 use Rattle.nvme_model.specs.Config.{completion_queue}
@@ -13,7 +14,7 @@ use Rattle.nvme_model.specs.History.{Past}
 use Rattle.nvme_model.specs.Legal.{IsLegal}
 use Rattle.nvme_model.specs.Operations.{op, units_by}
 use Rattle.nvme_model.specs.Owed.{completion_data, contents_at, numbered_units, read_data_by, units_of}
-use Rattle.nvme_model.specs.Passes.{SharedPast, entries}
+use Rattle.nvme_model.specs.Passes.{entries}
 use Rattle.nvme_model.specs.Placed.{effect}
 use Rattle.nvme_model.specs.Queues.{published_entries}
 use Rattle.nvme_model.specs.Slots.{Name, name_of}
@@ -27,12 +28,9 @@ use Rattle.nvme_model.specs.declared.entry.Entry.{Entry}
 use Rattle.nvme_model.specs.declared.operation.Op.{Op}
 use Rattle.nvme_model.specs.declared.submission.Submission.{Submission}
 use Rattle.nvme_model.proofs.Cut.{atomic_one, cut-atomic}
-use Rattle.host_laws.specs.Beside.{IsSole}
 use Rattle.host_laws.specs.Calls.{IsDone}
-use Rattle.host_laws.proofs.Beside.{entries_append}
 use Rattle.host_laws.proofs.Elements.{same_some}
 use Rattle.host_laws.proofs.Later.{some_effect}
-use Rattle.driver_calls.proofs.Answering.{sole_before}
 use Rattle.driver_calls.proofs.Commands.{halves}
 use Rattle.driver_calls.proofs.Telling.{log_tells}
 use Rattle.driver_calls.proofs.Views.{since_none}
@@ -148,23 +146,6 @@ owned_queue v q h =
     eqb-true (completion_queue v.config q) v.queue
     (and_parts (nat_le 1 q && nat_le q v.config.pairs) (eqb (completion_queue v.config q) v.queue) h).1
 
--- the premise held before
-alone_then : (before : List PortEvent) (a b : PortView) → ViewFollows a b → IsAlone before b → IsAlone before a
-alone_then before a b f h =
-    record {
-      none = h.none;
-      sole =
-          let now : IsSole b.config b.queue b.pass (f.goes_on.0 ++ a.seen) =
-          subst (λ (s : SharedPast). IsSole b.config b.queue b.pass s) (sym f.goes_on.1) h.sole in
-          subst (λ (z : ConfigNumbers × ℕ × ℕ). IsSole z.0 z.1 z.2 a.seen)
-          (λ i. (f.same_config i, f.same_queue i, f.same_pass i))
-          (sole_before b.config b.queue b.pass f.goes_on.0 a.seen now);
-    }
-
--- what was seen goes on
-grew : (a b : PortView) (f : ViewFollows a b) → entries b.seen ≡ entries f.goes_on.0 ++ entries a.seen
-grew a b f = sym (λ i. entries (f.goes_on.1 i)) ∙ entries_append f.goes_on.0 a.seen
-
 -- the entry is published in the history, as the log has it
 published : (before : List PortEvent) (v : PortView) (q j : ℕ) (s : Submission) → IsLegal v.config (entries v.seen)
     → owns v q ≡ true → is_tidy (since before (log_of v)) ≡ true → IsAlone before v
@@ -201,11 +182,11 @@ read_then before start a q j l o bytes f legal own tidy r says alone =
     (ap (λ (e : Submission). slba (sqe_fields e.entry)) s ∙ b.0)
     (ap (λ (e : Submission). block_count (sqe_fields e.entry)) s ∙ b.1) in
     let k = behind (entries f.goes_on.0) (entries start.seen) d.ticket 0 x.before (said.1 0)
-    (subst (λ (p : Past). effect p d.ticket 0 ≡ Some x.before) (grew start a f) x.stands) in
+    (subst (λ (p : Past). effect p d.ticket 0 ≡ Some x.before) (grown start a f) x.stands) in
     record {
       later = k.later;
       since = k.since;
-      is = grew start a f ∙ k.is;
+      is = grown start a f ∙ k.is;
       found = x.found ∙ ap (λ (p : Past). value p l) k.at;
     }
 
@@ -220,12 +201,12 @@ pub read_moment : (before : List PortEvent) (start a b : PortView) (q j l : ℕ)
     → CallSays a.config (entries start.seen) (entries a.seen) q j o (Some (Ok (Reply.Read bytes))))
     → IsAlone before b → Moment (entries start.seen) (entries b.seen) l bytes
 read_moment before start a b q j l o bytes f g legal own tidy r says alone =
-    let then = alone_then before a b g alone in
+    let then = alone_before before a b g alone in
     let m = read_then before start a q j l o bytes f legal own tidy r (says then) then in
     record {
       later = entries g.goes_on.0 ++ m.later;
       since = m.since;
-      is = grew a b g ∙ (ap (λ (p : Past). entries g.goes_on.0 ++ p) m.is
+      is = grown a b g ∙ (ap (λ (p : Past). entries g.goes_on.0 ++ p) m.is
           ∙ append_over (entries g.goes_on.0) m.later (m.since ++ entries start.seen));
       found = m.found;
     }

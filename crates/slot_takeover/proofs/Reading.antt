@@ -2,6 +2,7 @@
 use Rattle.std.proofs.Common.{Bool, Err, List, None, Ok, Some, [], ap, arith, cond, eq-eqb, eqb, false, inl, inr}
 use Rattle.std.proofs.Common.{length, refl, slice_get, subst, sym, true, ℕ, ◌&&◌, ◌<◌, ◌∙◌, ◌∷◌, ◌≡◌}
 use Rattle.std.proofs.lemmas.Bool.{cond-true}
+use Rattle.plain_lemmas.proofs.Options.{some_one}
 use Rattle.nvme_model.specs.Statuses.{compare_failure, is_success, same_status}
 use Rattle.nvme_model.specs.declared.array.Range.{Range}
 use Rattle.nvme_model.specs.declared.operation.Op.{Op}
@@ -84,9 +85,6 @@ read_sent log q l first second (CallData.One payload) (s ∷ t ∷ batch) e is =
 read_sent log q l first second (CallData.Two a b) batch e is =
     absurd (let h : CallData.Two a b ≡ CallData.One [] = e in cc)
 
-some_number : (a b : ℕ) → Some a ≡ Some b → a ≡ b
-some_number a b h = cc
-
 module _ {P : Type 0} (g : Ghosts P) where
   -- the number of a Read that was published just now
   number_read : (d e : Driver P g) (k : Call P) (l : ℕ) (contents : CallData) → IsStarted d e k Op.Read l 1 contents
@@ -97,7 +95,7 @@ module _ {P : Type 0} (g : Ghosts P) where
       (sent_call (made d) k.queue l 1 k.first k.second Op.Read contents s.batch s.free.unlike s.is).1 in
       let of : newest (made e) k.queue k.first ≡ Some (number_of e k) =
       (subst (λ (o : Op). IsCallIn (made e) k.queue o k.first k.second (number_of e k)) s.does s.of.published).1 in
-      some_number (number_of e k) (length (sent (made d) k.queue))
+      some_one (number_of e k) (length (sent (made d) k.queue))
       (sym of ∙ (ap (λ (log : List PortEvent). newest log k.queue k.first) s.published ∙ there))
 
   -- the Read of a question that was begun just now

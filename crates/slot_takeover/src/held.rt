@@ -28,3 +28,25 @@ impl HeldSlot {
         (slot, serial)
     }
 }
+
+/// A slot that was taken over, and may be dropped: it then stays held.
+pub struct KeptSlot {
+    pub held: HeldSlot,
+}
+
+impl Drop for KeptSlot {
+    fn drop(self) {
+        let KeptSlot { held } = self;
+        let _ = held.leave();
+    }
+}
+
+impl KeptSlot {
+    /// The slot, to be given back.
+    pub fn into_held(self) -> HeldSlot
+        ensures { result ≡ self.held }
+    {
+        let KeptSlot { held } = self;
+        held
+    }
+}

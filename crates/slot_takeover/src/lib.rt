@@ -9,7 +9,7 @@ mod polling;
 mod taking;
 
 pub use giving_back::give_back;
-pub use held::HeldSlot;
+pub use held::{HeldSlot, KeptSlot};
 pub use holder::{Holder, HolderPoll, ReadingHolder, poll_holder, read_holder};
 pub use polling::{TakeoverProgress, poll_takeover};
 pub use taking::{TakingOver, take_over};

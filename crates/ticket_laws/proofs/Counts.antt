@@ -55,7 +55,7 @@ taken_some (Verdict.SingleFailed s) = (omega arith, omega arith)
 taken_some Verdict.Pair = (omega arith, omega arith)
 taken_some (Verdict.PairFailed s r) = (omega arith, omega arith)
 
-taken_pair : (o : Option (Status × Status)) → taken_entries (of_pair o) ≡ 2
+pub taken_pair : (o : Option (Status × Status)) → taken_entries (of_pair o) ≡ 2
 taken_pair None = refl
 taken_pair (Some s) = refl
 

@@ -5,14 +5,9 @@ mod PieceGiven
 mod Ready
 mod Calls
 mod HostSent
-pub mod Bars
-pub mod Beginning
-pub mod Fresh
-pub mod Keeping
-pub mod Places
-pub mod Polled
-pub mod Releasing
+mod RemoteSent
+mod RemoteLooked
+mod Fresh
 pub mod SlotSent
 mod SeenTaken
 mod SlotsFollowed
-pub mod Staying

@@ -1,7 +1,9 @@
 -- A checker of slots takes one more entry.
-use Rattle.std.proofs.Common.{Bool, None, Option, Some, add-one, ap, ap₂, false, is_none, is_some, length, refl, sym}
+use Rattle.std.proofs.Common.{Bool, None, Option, add-one, ap, ap₂, false, is_none, is_some, length, sym}
 use Rattle.std.proofs.Common.{true, ℕ, ◌&&◌, ◌+◌, ◌∙◌, ◌∷◌, ◌≡◌}
 use Rattle.std.proofs.lemmas.Bool.{and_parts}
+use Rattle.plain_lemmas.proofs.Options.{none_of}
+use Rattle.file_commands.proofs.Wronging.{both_none, none_by, stays}
 use Rattle.nvme_model.specs.History.{Past}
 use Rattle.nvme_model.specs.Legal.{IsLegal}
 use Rattle.nvme_model.specs.declared.array.Range.{Range}
@@ -17,24 +19,6 @@ use Rattle.vandrexu_c.specs.SlotCheckers.{FollowsSlots, SlotCheckerRun}
 
 pub legal_before : (c : ConfigNumbers) (past : Past) (e : Entry) → IsLegal c (e ∷ past) → IsLegal c past
 legal_before c past e legal = (and_parts _ _ legal).0
-
-both_none : (o : Option WrongStep) (b : Option BrokenDiscipline) (n : ℕ)
-    → is_none (wrong_or o (wrong_step_at n b)) ≡ (is_none o && is_none b)
-both_none None None n = refl
-both_none None (Some b) n = refl
-both_none (Some w) b n = refl
-
-stays : (o later : Option WrongStep) → is_some o ≡ true → o ≡ wrong_or o later
-stays None later some = absurd (let f : false ≡ true = some in cc)
-stays (Some step) later some = refl
-
-none_by : (n : ℕ) (b : Option BrokenDiscipline) → wrong_step_at n b ≡ None → b ≡ None
-none_by n None h = refl
-none_by n (Some b) h = absurd (let f : wrong_step_at n (Some b) ≡ None = h in cc)
-
-none_step : (o : Option WrongStep) → is_some o ≡ false → o ≡ None
-none_step None none = refl
-none_step (Some step) none = absurd (let f : true ≡ false = none in cc)
 
 module _ (c : ConfigNumbers) (slots : Range) (past : Past) (e : Entry) (r s : SlotCheckerRun)
     (h : FollowsSlots c slots past r) (counted : s.count ≡ r.count + 1) where
@@ -72,7 +56,7 @@ module _ (c : ConfigNumbers) (slots : Range) (past : Past) (e : Entry) (r s : Sl
       → Watches c slots (e ∷ past) (area_state s.area))
       → FollowsSlots c slots (e ∷ past) s
   goes_on none b told breaks watches =
-      let no_wrong = none_step r.wrong none in
+      let no_wrong = none_of r.wrong none in
       let place : s.count ≡ length past + 1 = counted ∙ ap (λ (n : ℕ). n + 1) h.count in
       let watching : IsLegal c (e ∷ past) → Watches c slots past (area_state r.area) =
       λ (legal : IsLegal c (e ∷ past)). h.watches (before legal) no_wrong in

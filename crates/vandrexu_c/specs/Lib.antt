@@ -12,9 +12,11 @@ pub mod HostStates
 pub mod Hosts
 pub mod HostMaking
 pub mod HostReplies
-pub mod Begins
+pub mod RemoteStates
+pub mod Remotes
 pub mod SlotCheckers
 pub mod SlotMaking
-pub mod Polls
 pub mod SlotReplies
+pub mod SlotCalls
 pub mod SlotStates
+pub mod RemoteSlots

@@ -43,7 +43,8 @@ pub(crate) fn plain(kind: u32) -> HostReply
     }
 }
 
-fn kind_in(reply: &Reply) -> u32
+/// The kind of a reply.
+pub(crate) fn kind_in(reply: &Reply) -> u32
     ensures { result ≡ done_kind reply.now }
 {
     match reply {
@@ -77,7 +78,8 @@ macro_rules! failed {
 
 pub(crate) use failed;
 
-fn failed_in(fault: Fault) -> HostReply
+/// The reply to a call that failed.
+pub(crate) fn failed_in(fault: Fault) -> HostReply
     ensures { result ≡ failed_reply fault }
 {
     failed!(HostReply, fault)

@@ -1,15 +1,17 @@
-//! The library for callers in C, one function each: a controller, a checker, whole texts, hosts with drivers, and their
-//! slots. The headers in `include/` say how they are called.
+//! The library for callers in C, one function each: a controller, a checker, whole texts, hosts with drivers, their
+//! slots, and hosts of a controller that is somewhere else. The headers in `include/` say how they are called.
 #![tactic(auto)]
 
 mod answers;
 mod batch;
+mod carrying;
 mod checker;
 mod configuration;
 mod controller;
 mod copying;
 mod disk_calls;
 mod disk_looks;
+mod disk_slots;
 mod held;
 mod host;
 mod host_calls;
@@ -23,18 +25,18 @@ mod owned_checker;
 mod owned_controller;
 mod owned_slot_checker;
 mod owned_tracer;
-mod slot_begin;
+mod remote;
+mod remote_calls;
+mod remote_handle;
+mod remote_slot_calls;
+mod remote_slot_handle;
+mod remote_slots;
 mod slot_checker;
 mod slot_checker_handle;
-mod slot_endings;
 mod slot_exports;
 mod slot_handle;
-mod slot_hold;
-mod slot_host;
 mod slot_making;
-mod slot_polling;
 mod slot_reply;
 mod steps;
 mod texts;
 mod tracer;
-mod under_way;

@@ -14,7 +14,7 @@ pub(crate) const NO_SLOT: u32 = 118;
 
 pub(crate) const NOT_HELD: u32 = 119;
 
-pub(crate) const HELD: u32 = 120;
+pub(crate) const HELD_BY_HOST: u32 = 120;
 
 pub(crate) const BAD_NAME: u32 = 122;
 

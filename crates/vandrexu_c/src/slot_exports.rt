@@ -7,10 +7,11 @@ ghost use Rattle.c_handles.specs.Disks.{IsNewDisk, MayRefuseDisk, disk_slots};
 ghost use Rattle.nvme_model.specs.declared.array.Range.{Range};
 ghost use Rattle.c_handles.specs.Handles.{disk_in};
 ghost use Rattle.c_handles.specs.declared.disk.Disk.{Disk as TheDisk};
-ghost use Rattle.vandrexu_c.specs.Begins.{AnyClaimTells, ClaimTells, HolderTells, ReleaseTells, TakeoverTells};
+ghost use Rattle.slot_host.specs.Begins.{AnyClaimTells, ClaimTells, HolderTells, ReleaseTells, TakeoverTells};
+ghost use Rattle.slot_host.specs.HostPolls.{HostPolls};
+ghost use Rattle.vandrexu_c.specs.SlotCalls.{BegunAs, ToldAs};
 ghost use Rattle.vandrexu_c.specs.SlotMaking.{MakesSlotHost, given_area};
-ghost use Rattle.vandrexu_c.specs.Polls.{PollTells};
-ghost use Rattle.vandrexu_c.specs.SlotStates.{SlotState};
+ghost use Rattle.vandrexu_c.specs.SlotStates.{DiskSlots};
 
 use crate::disk_calls::disk_of;
 use crate::lending::{fill, lend};
@@ -64,7 +65,7 @@ pub extern "C" fn vandrexu_slot_host_new(
     queue: u16,
     host: &mut SlotHandle,
 ) -> u32
-    ensures in_use { (h : SlotState) → host.old.held.host ≡ Some h →
+    ensures in_use { (h : DiskSlots) → host.old.held.host ≡ Some h →
         (result ≡ 102) × (host.new.held.host ≡ Some h) × (disk_in disk.new ≡ disk_in disk.old) }
     ensures no_disk { host.old.held.host ≡ None → disk_in disk.old ≡ None →
         (result ≡ 101) × (host.new.held.host ≡ None) × (disk_in disk.new ≡ None) }
@@ -100,8 +101,8 @@ pub extern "C" fn vandrexu_slot_host_free(alloc: Global, host: &mut SlotHandle)
 #[unsafe(no_mangle)]
 pub extern "C" fn vandrexu_slot_claim(alloc: Global, host: &mut SlotHandle, slot: u32) -> u32
     ensures no_handle { host.old.held.host ≡ None → (result ≡ 101) × (host.new.held.host ≡ None) }
-    ensures claims { (h : SlotState) → host.old.held.host ≡ Some h →
-        Keeps host.new.held.host (λ j. ClaimTells h j slot result) }
+    ensures claims { (h : DiskSlots) → host.old.held.host ≡ Some h →
+        Keeps host.new.held.host (λ j. BegunAs (ClaimTells h j slot) result) }
 {
     lend!(alloc, host, mut owned => owned.as_mut().claim(slot))
 }
@@ -112,8 +113,8 @@ pub extern "C" fn vandrexu_slot_claim(alloc: Global, host: &mut SlotHandle, slot
 #[unsafe(no_mangle)]
 pub extern "C" fn vandrexu_slot_claim_any(alloc: Global, host: &mut SlotHandle) -> u32
     ensures no_handle { host.old.held.host ≡ None → (result ≡ 101) × (host.new.held.host ≡ None) }
-    ensures claims { (h : SlotState) → host.old.held.host ≡ Some h →
-        Keeps host.new.held.host (λ j. AnyClaimTells h j result) }
+    ensures claims { (h : DiskSlots) → host.old.held.host ≡ Some h →
+        Keeps host.new.held.host (λ j. BegunAs (AnyClaimTells h j) result) }
 {
     lend!(alloc, host, mut owned => owned.as_mut().claim_any())
 }
@@ -124,8 +125,8 @@ pub extern "C" fn vandrexu_slot_claim_any(alloc: Global, host: &mut SlotHandle) 
 #[unsafe(no_mangle)]
 pub extern "C" fn vandrexu_slot_release(alloc: Global, host: &mut SlotHandle, slot: u32) -> u32
     ensures no_handle { host.old.held.host ≡ None → (result ≡ 101) × (host.new.held.host ≡ None) }
-    ensures releases { (h : SlotState) → host.old.held.host ≡ Some h →
-        Keeps host.new.held.host (λ j. ReleaseTells h j slot result) }
+    ensures releases { (h : DiskSlots) → host.old.held.host ≡ Some h →
+        Keeps host.new.held.host (λ j. BegunAs (ReleaseTells h j slot) result) }
 {
     lend!(alloc, host, mut owned => owned.as_mut().release(slot))
 }
@@ -142,8 +143,9 @@ pub extern "C" fn vandrexu_slot_take_over(
     serial: u64,
 ) -> u32
     ensures no_handle { host.old.held.host ≡ None → (result ≡ 101) × (host.new.held.host ≡ None) }
-    ensures takes { (h : SlotState) → host.old.held.host ≡ Some h → Keeps host.new.held.host
-        (λ j. TakeoverTells h j slot (record { host = dead; serial = serial }) result) }
+    ensures takes { (h : DiskSlots) → host.old.held.host ≡ Some h → Keeps host.new.held.host
+        (λ j. BegunAs (TakeoverTells h j slot (record { host = dead; serial = serial }))
+        result) }
 {
     lend!(alloc, host, mut owned => owned.as_mut().take_over(slot, Name { host: dead, serial }))
 }
@@ -153,8 +155,8 @@ pub extern "C" fn vandrexu_slot_take_over(
 #[unsafe(no_mangle)]
 pub extern "C" fn vandrexu_slot_ask_holder(alloc: Global, host: &mut SlotHandle, slot: u32) -> u32
     ensures no_handle { host.old.held.host ≡ None → (result ≡ 101) × (host.new.held.host ≡ None) }
-    ensures asks { (h : SlotState) → host.old.held.host ≡ Some h →
-        Keeps host.new.held.host (λ j. HolderTells h j slot result) }
+    ensures asks { (h : DiskSlots) → host.old.held.host ≡ Some h →
+        Keeps host.new.held.host (λ j. BegunAs (HolderTells h j slot) result) }
 {
     lend!(alloc, host, mut owned => owned.as_mut().ask_holder(slot))
 }
@@ -170,8 +172,8 @@ pub extern "C" fn vandrexu_slot_poll(
 ) -> u32
     ensures no_handle { host.old.held.host ≡ None →
         (result ≡ 101) × (host.new.held.host ≡ None) × (reply.new ≡ reply.old) }
-    ensures polls { (h : SlotState) → host.old.held.host ≡ Some h →
-        Keeps host.new.held.host (λ j. PollTells h j result reply.new) }
+    ensures polls { (h : DiskSlots) → host.old.held.host ≡ Some h →
+        Keeps host.new.held.host (λ j. ToldAs (HostPolls h j) result reply.new) }
 {
     let (told, what) = lend!(alloc, host, mut owned => owned.as_mut().poll());
     *reply = what;

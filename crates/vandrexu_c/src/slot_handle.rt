@@ -3,10 +3,10 @@
 ghost use Rattle.std.specs.Coded.{coded_option};
 ghost use Rattle.std.specs.Prelude.{◌≡◌, MatchOption, None, Option, Some};
 ghost use Rattle.c_handles.specs.Owned.{mark};
-ghost use Rattle.vandrexu_c.specs.SlotStates.{SlotState};
-ghost use Rattle.vandrexu_c.specs.contracts.slot_host.SlotHost.{the_row};
+ghost use Rattle.vandrexu_c.specs.contracts.disk_slots.DiskSlotHost.{the_row};
+ghost use Rattle.vandrexu_c.specs.SlotStates.{DiskSlots};
 
-use crate::slot_host::SlotHost;
+use crate::disk_slots::DiskSlotHost;
 use c_handles::Owner;
 use std::alloc::Global;
 use std::marker::{Model, Send};
@@ -16,12 +16,12 @@ use std::marker::{Model, Send};
 #[derive(Drop)]
 pub struct HeldSlotHost {
     at: *mut u8,
-    ghost host: { Option SlotState } by { coded_option the_row.coded },
+    ghost host: { Option DiskSlots } by { coded_option the_row.coded },
 }
 
 impl Model for HeldSlotHost {
     ghost use Rattle.c_handles.specs.Owned.{owned};
-    ghost use Rattle.vandrexu_c.specs.contracts.slot_host.SlotHost.{the_row};
+    ghost use Rattle.vandrexu_c.specs.contracts.disk_slots.DiskSlotHost.{the_row};
 
     ghost also_owns = { λ h. owned the_row h.at h.host };
 }
@@ -30,19 +30,19 @@ impl Model for HeldSlotHost {
 unsafe impl Send for HeldSlotHost {}
 
 impl HeldSlotHost {
-    fn of(owner: Owner<SlotHost>) -> HeldSlotHost
+    fn of(owner: Owner<DiskSlotHost>) -> HeldSlotHost
         ensures { result.host ≡ owner.value }
     {
         let Owner { at } = owner;
         HeldSlotHost { at: at as *mut u8 }
     }
 
-    fn into_owner(self) -> Owner<SlotHost>
+    fn into_owner(self) -> Owner<DiskSlotHost>
         ensures { result.value ≡ self.host }
     {
         let HeldSlotHost { at } = self;
         Owner {
-            at: at as *mut SlotHost,
+            at: at as *mut DiskSlotHost,
         }
     }
 }
@@ -57,7 +57,7 @@ pub struct SlotHandle {
 
 impl SlotHandle {
     // Takes the host out, if it owns one.
-    pub(crate) fn take(&mut self, alloc: Global) -> Option<Box<SlotHost>>
+    pub(crate) fn take(&mut self, alloc: Global) -> Option<Box<DiskSlotHost>>
         ensures value { MatchOption result (self.old.held.host ≡ None) (λ b. self.old.held.host ≡ Some b.value) }
         ensures emptied { self.new.held.host ≡ None }
     {
@@ -70,7 +70,7 @@ impl SlotHandle {
     }
 
     // Puts a host into one that has none.
-    pub(crate) fn put(&mut self, host: Box<SlotHost>)
+    pub(crate) fn put(&mut self, host: Box<DiskSlotHost>)
         requires { self.old.held.host ≡ None }
         ensures { self.new.held.host ≡ Some host.value }
     {

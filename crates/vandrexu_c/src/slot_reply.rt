@@ -1,19 +1,22 @@
 //! What a slot host's call that is polled tells, as it lies in C.
 
 ghost use Rattle.std.specs.Prelude.{◌≡◌};
+ghost use Rattle.vandrexu_c.specs.SlotCalls.{begun_number, told_number, told_reply};
 ghost use Rattle.vandrexu_c.specs.SlotReplies.{failed_reply, holder_reply, plain_reply, slot_reply};
 
 use crate::host_reply::failed;
+use crate::numbers::{BAD_NAME, HELD_BY_HOST, IN_CALL, NO_CALL, NO_SLOT, NOT_HELD};
 use driver_cas::Fault;
+use slot_host::{NotBegun, SlotTold};
 use slot_takeover::Holder;
 
-pub(crate) const PENDING: u32 = 1;
+const PENDING: u32 = 1;
 
-pub(crate) const HELD: u32 = 2;
+const HELD: u32 = 2;
 
-pub(crate) const TAKEN: u32 = 3;
+const TAKEN: u32 = 3;
 
-pub(crate) const RELEASED: u32 = 4;
+const RELEASED: u32 = 4;
 
 const FREE: u32 = 5;
 
@@ -41,8 +44,8 @@ pub struct SlotReply {
     pub zeros: [u8; 2],
 }
 
-/// A reply with nothing beside its kind.
-pub(crate) fn plain(kind: u32) -> SlotReply
+// A reply with nothing beside its kind.
+fn plain(kind: u32) -> SlotReply
     ensures { result ≡ plain_reply kind }
 {
     SlotReply {
@@ -56,8 +59,8 @@ pub(crate) fn plain(kind: u32) -> SlotReply
     }
 }
 
-/// A slot is held.
-pub(crate) fn held_now(slot: u32) -> SlotReply
+// A slot is held.
+fn held_now(slot: u32) -> SlotReply
     ensures { result ≡ slot_reply slot }
 {
     SlotReply {
@@ -66,15 +69,15 @@ pub(crate) fn held_now(slot: u32) -> SlotReply
     }
 }
 
-/// A call failed.
-pub(crate) fn failed_by(fault: Fault) -> SlotReply
+// A call failed.
+fn failed_by(fault: Fault) -> SlotReply
     ensures { result ≡ failed_reply fault }
 {
     failed!(SlotReply, fault)
 }
 
-/// Who holds a slot.
-pub(crate) fn told_holder(holder: Holder) -> SlotReply
+// Who holds a slot.
+fn told_holder(holder: Holder) -> SlotReply
     ensures { result ≡ holder_reply holder }
 {
     match holder {
@@ -85,5 +88,51 @@ pub(crate) fn told_holder(holder: Holder) -> SlotReply
             ..plain(OF_NAME)
         },
         Holder::Foreign => plain(FOREIGN),
+    }
+}
+
+/// The number of a call that was begun, or wasn't.
+pub(crate) fn number_begun(begun: Result<(), NotBegun>) -> u32
+    ensures { result ≡ begun_number begun }
+{
+    match begun {
+        Ok(()) => 0,
+        Err(NotBegun::InCall) => IN_CALL,
+        Err(NotBegun::NoSlot) => NO_SLOT,
+        Err(NotBegun::NotHeld) => NOT_HELD,
+        Err(NotBegun::Held) => HELD_BY_HOST,
+        Err(NotBegun::BadName) => BAD_NAME,
+        Err(NotBegun::Fault(fault)) => u32::from(fault.number()),
+    }
+}
+
+/// The number of a poll.
+pub(crate) fn number_told(told: &Option<SlotTold>) -> u32
+    ensures { result ≡ told_number told.now }
+{
+    match told {
+        None => NO_CALL,
+        Some(SlotTold::Later(fault) | SlotTold::Failed(fault)) => u32::from(fault.number()),
+        Some(
+            SlotTold::Pending
+            | SlotTold::Held(_)
+            | SlotTold::Taken
+            | SlotTold::Released
+            | SlotTold::Holder(_),
+        ) => 0,
+    }
+}
+
+/// What it tells.
+pub(crate) fn reply_told(told: &Option<SlotTold>) -> SlotReply
+    ensures { result ≡ told_reply told.now }
+{
+    match told {
+        None | Some(SlotTold::Pending | SlotTold::Later(_)) => plain(PENDING),
+        Some(SlotTold::Held(slot)) => held_now(*slot),
+        Some(SlotTold::Taken) => plain(TAKEN),
+        Some(SlotTold::Released) => plain(RELEASED),
+        Some(SlotTold::Holder(holder)) => told_holder(*holder),
+        Some(SlotTold::Failed(fault)) => failed_by(*fault),
     }
 }

@@ -5,6 +5,7 @@ use mathlib.Core.List.{reverse}
 use Rattle.std.proofs.KnownBytes.{Appends-trans}
 use Rattle.std.specs.Io.KnownBytes.{Appends}
 use Rattle.std.proofs.lemmas.List.{map-append, reverse-append}
+use Rattle.line_text.proofs.Feeds.{feeds_append, feeds_one}
 use Rattle.history.specs.ConfigLine.{config_line}
 use Rattle.history.specs.Lines.{entry_line}
 use Rattle.line_text.specs.Known.{AppendsFront}
@@ -22,17 +23,6 @@ use Rattle.trace.specs.SeenLines.{seen_line}
 use Rattle.witness_check.specs.TraceText.{seen_text, trace_text}
 use Rattle.witness_check.specs.Seeing.{AreWaitingPayloads}
 use Rattle.witness_check.proofs.Comparing.{more_of}
-
--- lines, and then others
-feeds_append : (xs ys : List (List ℕ)) → with_feeds (xs ++ ys) ≡ with_feeds xs ++ with_feeds ys
-unfolding with_feeds
-feeds_append [] ys = refl
-feeds_append (x ∷ xs) ys =
-    ap (λ (l : List ℕ). x ++ (10 ∷ l)) (feeds_append xs ys) ∙ sym (append_assoc x (10 ∷ with_feeds xs) (with_feeds ys))
-
-feeds_one : (x : List ℕ) → with_feeds (x ∷ []) ≡ x ++ 10 ∷ []
-unfolding with_feeds
-feeds_one x = refl
 
 -- no entry
 pub text_none : (c : ConfigNumbers) → trace_text c [] ≡ config_line c ++ 10 ∷ []

@@ -11,8 +11,10 @@ pub enum Error {
     Ended(u16, u32),
     /// The target sent what a target doesn't send.
     Target(&'static str),
-    /// A command of the set-up was answered by this status, and these first eight bytes.
+    /// A command of the set-up was answered by this status, and these first eight bytes; or a call by this status.
     Refused(Status, u64),
+    /// The driver began no call, or has no memory.
+    Driver(vandrexu::Error),
 }
 
 /// What a call answers.
@@ -30,6 +32,7 @@ impl fmt::Display for Error {
                 let (kind, code) = status.code();
                 write!(f, "the target refused: status {kind}/{code:02X}")
             }
+            Error::Driver(error) => error.fmt(f),
         }
     }
 }
@@ -39,6 +42,12 @@ impl std::error::Error for Error {}
 impl From<io::Error> for Error {
     fn from(error: io::Error) -> Error {
         Error::Connection(error)
+    }
+}
+
+impl From<vandrexu::Error> for Error {
+    fn from(error: vandrexu::Error) -> Error {
+        Error::Driver(error)
     }
 }
 

@@ -67,10 +67,11 @@ impl Dial {
 /// A host with its queues.
 #[derive(Debug)]
 pub struct Host {
-    /// The admin queue.
-    pub admin: Queue,
+    // (they leave before the admin queue does, with which the target ends them)
     /// The I/O queues, as many as the target gave.
     pub queues: Vec<Queue>,
+    /// The admin queue.
+    pub admin: Queue,
     /// The number of its controller.
     pub controller: u16,
     dial: Dial,

@@ -1,8 +1,9 @@
 //! One connection, which is one queue.
 use crate::{Dial, Error, Result, TraceOfQueue};
 use std::collections::HashMap;
-use std::io::Write;
-use std::net::TcpStream;
+use std::io::{Read, Write};
+use std::net::{Shutdown, TcpStream};
+use std::time::{Duration, Instant};
 use vandrexu_wire::{
     BLOCK, Command, Completion, Fatal, Format, Pdu, Reader, Side, Status, fabrics, kind, opcode, put16, put32, u16_at,
     u32_at,
@@ -11,12 +12,28 @@ use vandrexu_wire::{
 /// The most bytes of one data PDU.
 const LIMIT: usize = 1 << 20;
 
+/// How long it takes at the most to leave.
+const LEAVING: Duration = Duration::from_secs(3);
+
+/// What a target sends that answers twice, or what nobody asked for.
+pub(crate) const NO_COMMAND: &str = "a completion of no command";
+
 /// A command that wasn't answered yet.
 #[derive(Debug)]
-struct Sent {
+pub(crate) struct Sent {
     command: Command,
+    /// The CID that it had before.
+    own: u16,
     data: Vec<u8>,
     read: Vec<u8>,
+    came: usize,
+}
+
+impl Sent {
+    /// A command with its data, and with room for what it may read.
+    pub(crate) fn new(command: Command, data: Vec<u8>, room: usize) -> Sent {
+        Sent { command, own: command.cid(), data, read: vec![0; room], came: 0 }
+    }
 }
 
 /// What a command was answered.
@@ -42,6 +59,16 @@ impl Answer {
     }
 }
 
+/// A completion that came.
+#[derive(Debug)]
+pub(crate) struct Came {
+    pub(crate) answer: Answer,
+    /// The CID that its command had before it was sent, if a command waited for it.
+    pub(crate) own: Option<u16>,
+    /// Whether all came that a Read reads.
+    pub(crate) is_whole: bool,
+}
+
 /// A queue of a target.
 #[derive(Debug)]
 pub struct Queue {
@@ -50,6 +77,8 @@ pub struct Queue {
     format: Format,
     most: usize,
     in_capsule: usize,
+    number: u16,
+    slots: u16,
     next: u16,
     sent: HashMap<u16, Sent>,
     /// Where this queue logs what it sees.
@@ -81,7 +110,8 @@ impl Queue {
         };
         from.format = format;
         let most = u32_at(answer, 12) as usize;
-        Ok(Queue { to, from, format, most, in_capsule: dial.in_capsule, next: 0, sent: HashMap::new(), trace: None })
+        let (in_capsule, slots, sent) = (dial.in_capsule, dial.slots, HashMap::new());
+        Ok(Queue { to, from, format, most, in_capsule, number: 0, slots, next: 0, sent, trace: None })
     }
 
     /// Connects it as the queue of this number. For the admin queue, 0, the controller is FFFFh.
@@ -103,6 +133,7 @@ impl Queue {
         put16(&mut data, 16, controller);
         data[256..256 + dial.subsystem.len()].copy_from_slice(dial.subsystem.as_bytes());
         data[512..512 + dial.host.len()].copy_from_slice(dial.host.as_bytes());
+        self.number = qid;
         let mut command = Command::fabrics(fabrics::CONNECT);
         put16(&mut command.0, 42, qid);
         put16(&mut command.0, 44, dial.slots - 1);
@@ -142,20 +173,26 @@ impl Queue {
     /// # Errors
     /// A failed connection.
     pub fn send_all(&mut self, commands: &[(Command, &[u8])], room: usize) -> Result<Vec<u16>> {
-        let (mut bytes, mut named) = (vec![], vec![]);
-        for (command, data) in commands {
+        self.hand_over(commands.iter().map(|(command, data)| Sent::new(*command, data.to_vec(), room)).collect())
+    }
+
+    /// Sends commands in one piece, each under the next CID that is free, and gives these. So a CID that was used isn't used
+    /// again soon, and a completion that comes twice is found out.
+    pub(crate) fn hand_over(&mut self, mut commands: Vec<Sent>) -> Result<Vec<u16>> {
+        let (mut bytes, mut cids) = (vec![], vec![]);
+        for sent in &mut commands {
             let cid = self.free_cid();
-            let mut command = *command;
-            put16(&mut command.0, 2, cid);
-            bytes.extend(self.capsule(command, data, room));
-            self.sent.insert(cid, Sent { command, data: data.to_vec(), read: vec![0; room] });
-            named.push((command, *data));
+            put16(&mut sent.command.0, 2, cid);
+            bytes.extend(self.capsule(sent));
+            cids.push(cid);
         }
         if let Some(trace) = &self.trace {
-            trace.publish(&named)?;
+            let told: Vec<(Command, &[u8])> = commands.iter().map(|it| (it.command, &it.data[..])).collect();
+            trace.publish(&told)?;
         }
+        self.sent.extend(cids.iter().copied().zip(commands));
         self.to.write_all(&bytes)?;
-        Ok(named.iter().map(|(it, _)| it.cid()).collect())
+        Ok(cids)
     }
 
     /// Sends a capsule with the data descriptor that its entry has, right or wrong, and gives its CID; for tests of targets.
@@ -166,7 +203,7 @@ impl Queue {
     pub fn send_as_it_is(&mut self, command: Command, inside: &[u8], asked: &[u8]) -> Result<u16> {
         let (cid, mut command) = (self.free_cid(), command);
         put16(&mut command.0, 2, cid);
-        self.sent.insert(cid, Sent { command, data: asked.to_vec(), read: vec![0; LIMIT] });
+        self.sent.insert(cid, Sent::new(command, asked.to_vec(), LIMIT));
         self.to.write_all(&self.format.command(&command.0, inside))?;
         Ok(cid)
     }
@@ -186,10 +223,22 @@ impl Queue {
         self.format
     }
 
+    /// Its number.
+    #[must_use]
+    pub fn number(&self) -> u16 {
+        self.number
+    }
+
+    /// How many commands it takes at once.
+    pub(crate) fn most_in_flight(&self) -> usize {
+        usize::from(self.slots) - 1
+    }
+
     /// A capsule with the data descriptor of a transport: data in the capsule where it fits, else by R2T.
-    fn capsule(&self, command: Command, data: &[u8], room: usize) -> Vec<u8> {
+    fn capsule(&self, sent: &Sent) -> Vec<u8> {
+        let (data, room) = (&sent.data[..], sent.read.len());
         let inside = !data.is_empty() && data.len() <= self.in_capsule;
-        let mut entry = command.0;
+        let mut entry = sent.command.0;
         entry[1] |= 0x40;
         put32(&mut entry, 32, if data.is_empty() { room } else { data.len() } as u32);
         entry[39] = if inside { 0x01 } else { 0x5A };
@@ -216,6 +265,12 @@ impl Queue {
     /// # Errors
     /// A failed connection, one that the target ended, and what a target doesn't send.
     pub fn receive(&mut self) -> Result<Answer> {
+        let came = self.next_answer()?;
+        if came.own.is_some() { Ok(came.answer) } else { Err(Error::Target(NO_COMMAND)) }
+    }
+
+    /// Waits for the next completion, also for one that no command is owed.
+    pub(crate) fn next_answer(&mut self) -> Result<Came> {
         loop {
             let pdu = next(&mut self.from)?;
             match pdu.kind() {
@@ -237,6 +292,7 @@ impl Queue {
         }
         let place = sent.read.get_mut(at..at + data.len()).ok_or(Error::Target("more data than there is room for"))?;
         place.copy_from_slice(data);
+        sent.came += data.len();
         Ok(())
     }
 
@@ -255,17 +311,19 @@ impl Queue {
         Ok(())
     }
 
-    fn answer(&mut self, pdu: &Pdu) -> Result<Answer> {
+    fn answer(&mut self, pdu: &Pdu) -> Result<Came> {
         let completion = Completion(pdu.header()[8..24].try_into().expect("16 bytes"));
         let sent = self.sent.remove(&completion.cid());
-        let is_known = sent.is_some();
+        let own = sent.as_ref().map(|it| it.own);
         let is_read = |it: &Sent| completion.status().is(Status::SUCCESS) && it.command.0[0] & 3 == 2;
-        let data = sent.filter(is_read).map_or(vec![], |it| it.read);
+        let read = sent.filter(is_read);
+        let is_whole = read.as_ref().is_none_or(|it| it.came == it.read.len());
+        let data = read.map_or(vec![], |it| it.read);
         // (one that no command is owed was seen, too)
         if let Some(trace) = &mut self.trace {
             trace.reap(&completion, &data)?;
         }
-        if is_known { Ok(Answer { completion, data }) } else { Err(Error::Target("a completion of no command")) }
+        Ok(Came { answer: Answer { completion, data }, own, is_whole })
     }
 
     /// Sends a command and waits for its completion; no other is in flight.
@@ -290,6 +348,22 @@ impl Queue {
             ((2, 0x85), (0, 9)) => Ok(false),
             ((0, 0), _) => Err(Error::Refused(write.status(), 0)),
             _ => Err(Error::Refused(compare.status(), 0)),
+        }
+    }
+}
+
+impl Drop for Queue {
+    /// Leaves. Once this is done the target has seen it, and the queue is free, unless that takes longer than three seconds.
+    fn drop(&mut self) {
+        let end = Instant::now() + LEAVING;
+        let _ = self.to.shutdown(Shutdown::Write);
+        let mut bytes = [0; 4096];
+        loop {
+            let left = end.saturating_duration_since(Instant::now());
+            // (0 is no timeout that can be set)
+            if self.to.set_read_timeout(Some(left)).is_err() || !matches!(self.to.read(&mut bytes), Ok(1..)) {
+                return;
+            }
         }
     }
 }

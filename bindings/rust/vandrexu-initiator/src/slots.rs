@@ -1,26 +1,16 @@
-//! Slots: locks that are blocks of a disk (docs/SLOTS.md). This is plain Rust over pairs; the proved slots are those of the
-//! library.
-use crate::{Answer, Error, Queue, Result};
-use vandrexu_wire::{BLOCK, Command, Status, opcode, put32, put64, u32_at, u64_at};
+//! Slots: locks that are blocks of a disk (docs/SLOTS.md), claimed and released by the slot host of the library.
+use crate::carrier::failed;
+use crate::{Carrier, Result};
+use vandrexu::{Name, RemoteSlotHost, SlotReply};
+use vandrexu_wire::{BLOCK, Status, put32, put64};
 
-/// Who holds a slot: a host, and the serial of its claim.
-#[derive(Clone, Copy, Debug, PartialEq, Eq, Hash)]
-pub struct Name {
-    /// The host, at least 1.
-    pub host: u32,
-    /// The serial, at least 1, which the host uses once.
-    pub serial: u64,
-}
-
-impl Name {
-    /// The block of a slot that is held by this name.
-    #[must_use]
-    pub fn block(self) -> [u8; BLOCK] {
-        let mut out = [0; BLOCK];
-        put32(&mut out, 0, self.host);
-        put64(&mut out, 8, self.serial);
-        out
-    }
+/// The block of a slot that is held by this name.
+#[must_use]
+pub fn block_of(name: Name) -> [u8; BLOCK] {
+    let mut out = [0; BLOCK];
+    put32(&mut out, 0, name.host);
+    put64(&mut out, 8, name.serial);
+    out
 }
 
 /// What the block of a slot says.
@@ -43,8 +33,6 @@ pub struct Area {
     pub count: u32,
 }
 
-const FREE: [u8; BLOCK] = [0; BLOCK];
-
 impl Area {
     /// The block of a slot, if there is such a slot.
     #[must_use]
@@ -53,58 +41,67 @@ impl Area {
     }
 }
 
-impl Queue {
-    /// Who holds the slot of this block.
+impl Carrier<RemoteSlotHost> {
+    /// Carries until the call is over.
+    fn slot_reply(&mut self) -> Result<SlotReply> {
+        let told = self.told(|host| host.poll().map(|it| if it == SlotReply::Pending { None } else { Some(it) }))?;
+        match told {
+            SlotReply::Failed { sct, sc } => Err(failed(sct, sc)),
+            told => Ok(told),
+        }
+    }
+
+    /// Who holds this slot.
     ///
     /// # Errors
-    /// A failed connection; the status of the Read.
-    pub fn holder(&mut self, block: u64) -> Result<Holder> {
-        let answer = self.call(Command::blocks(opcode::READ, block, 1), &[], BLOCK)?;
-        let data = read(answer)?;
-        let name = Name { host: u32_at(&data, 0), serial: u64_at(&data, 8) };
-        Ok(match name {
-            _ if data == FREE => Holder::Nobody,
-            Name { host: 1.., serial: 1.. } if data == name.block() => Holder::Name(name),
+    /// As those of [`reply`](Carrier::reply); why the call isn't begun; the status of the Read.
+    pub fn holder(&mut self, slot: u32) -> Result<Holder> {
+        self.driver().ask_holder(slot)?;
+        Ok(match self.slot_reply()? {
+            SlotReply::Free => Holder::Nobody,
+            SlotReply::Of(name) => Holder::Name(name),
             _ => Holder::Foreign,
         })
     }
 
-    /// Claims the slot of this block; false where somebody had it.
+    /// Claims this slot; false where somebody had it.
     ///
     /// # Errors
-    /// As those of `compare_and_write`.
-    pub fn claim(&mut self, block: u64, name: Name) -> Result<bool> {
-        self.compare_and_write(block, &FREE, &name.block())
+    /// As those of [`holder`](Carrier::holder); a status that no pair is answered.
+    pub fn claim(&mut self, slot: u32) -> Result<bool> {
+        self.driver().claim(slot)?;
+        Ok(self.slot_reply()? == SlotReply::Held(slot))
     }
 
-    /// Releases what this name holds; false where it doesn't.
+    /// Releases this slot, which this host claimed or took over; false where somebody else took it over meanwhile.
     ///
     /// # Errors
-    /// As those of `compare_and_write`.
-    pub fn release(&mut self, block: u64, name: Name) -> Result<bool> {
-        self.compare_and_write(block, &name.block(), &FREE)
+    /// As those of [`claim`](Carrier::claim).
+    pub fn release(&mut self, slot: u32) -> Result<bool> {
+        self.driver().release(slot)?;
+        match self.slot_reply() {
+            Err(crate::Error::Refused(status, _)) if status.is(Status::COMPARE_FAILURE) => Ok(false),
+            told => Ok(told? == SlotReply::Released),
+        }
     }
 
-    /// Takes the slot over from the name of a host that is fenced; false where that name doesn't hold it.
+    /// Takes this slot over from the name of a host that is fenced; false where that name doesn't hold it.
     ///
     /// # Errors
-    /// As those of `compare_and_write`.
-    pub fn take_over(&mut self, block: u64, from: Name, name: Name) -> Result<bool> {
-        self.compare_and_write(block, &from.block(), &name.block())
+    /// As those of [`claim`](Carrier::claim).
+    pub fn take_over(&mut self, slot: u32, dead: Name) -> Result<bool> {
+        self.driver().take_over(slot, dead)?;
+        Ok(self.slot_reply()? == SlotReply::Held(slot))
     }
-}
-
-fn read(answer: Answer) -> Result<Vec<u8>> {
-    if answer.status().is(Status::SUCCESS) { Ok(answer.data) } else { Err(Error::Refused(answer.status(), 0)) }
 }
 
 #[cfg(test)]
 mod tests {
-    use super::{Area, Name};
+    use super::{Area, Name, block_of};
 
     #[test]
     fn a_name_lies_where_the_page_says() {
-        let block = Name { host: 0x0102, serial: 0x0304 }.block();
+        let block = block_of(Name { host: 0x0102, serial: 0x0304 });
         assert_eq!((&block[..4], &block[8..16]), (&[2, 1, 0, 0][..], &[4, 3, 0, 0, 0, 0, 0, 0][..]));
         assert!(block[4..8].iter().chain(&block[16..]).all(|it| *it == 0));
         let area = Area { first: 7, count: 2 };

@@ -1,6 +1,6 @@
 //! The program vandrexu-lock: what flock(1) is for one machine, for machines that share a disk over NVMe/TCP. A lock is a
-//! slot (docs/SLOTS.md): one block of the disk, claimed and released by fused Compare and Write alone. Nothing here is
-//! proved.
+//! slot (docs/SLOTS.md): one block of the disk, claimed and released by fused Compare and Write alone. The slot host is the
+//! library's, which is proved; nothing else here is.
 mod signals;
 mod words;
 
@@ -8,7 +8,8 @@ use std::os::unix::process::ExitStatusExt;
 use std::process::{Command, ExitCode};
 use std::time::{Duration, Instant, SystemTime};
 use std::{io, thread};
-use vandrexu_initiator::{Dial, Error, Holder, Host, Name, Result};
+use vandrexu::{Name, RemoteHost, RemoteSlotHost};
+use vandrexu_initiator::{BLOCK, Carrier, Dial, Error, Holder, Host, Result, Status, block_of};
 use words::{Task, USAGE, Words};
 
 /// The slot wasn't got.
@@ -20,6 +21,9 @@ const FAILED: u8 = 3;
 
 /// How long it waits between two claims.
 const PAUSE: Duration = Duration::from_millis(20);
+
+/// How long it waits for a queue where all are in use, at the least: the target may not have seen yet that a host left.
+const QUEUE: Duration = Duration::from_secs(1);
 
 fn main() -> ExitCode {
     let words: Vec<String> = std::env::args().skip(1).collect();
@@ -45,19 +49,65 @@ fn main() -> ExitCode {
 
 fn dial(words: &Words) -> Dial {
     let mut it = Dial::to(words.target);
-    it.host = words.name.clone().unwrap_or_else(|| format!("nqn.2026-11.org.vandrexu:lock:{}", words.host));
+    let own = if words.task == Task::Status { "status".into() } else { words.host.to_string() };
+    it.host = words.name.clone().unwrap_or_else(|| format!("nqn.2026-11.org.vandrexu:lock:{own}"));
     if let Some(subsystem) = &words.subsystem {
         it.subsystem.clone_from(subsystem);
     }
     it
 }
 
+/// A connection with a slot host.
+struct Slots {
+    // (it leaves before its host does)
+    carrier: Carrier<RemoteSlotHost>,
+    _host: Host,
+    /// The name of its next claim, or takeover.
+    name: Name,
+}
+
+impl Slots {
+    /// Connects. Where the target has no queue free it is asked again, for so long.
+    fn connect(words: &Words, wait: Duration) -> Result<Slots> {
+        let (began, way) = (Instant::now(), dial(words));
+        let mut host = loop {
+            match Host::connect(&way, 1) {
+                Err(Error::Refused(it, _)) if it.is(Status::CONNECT_BUSY) && began.elapsed() < wait.max(QUEUE) => {}
+                told => break told?,
+            }
+            thread::sleep(PAUSE);
+        };
+        let serial = serial();
+        let carrier = host.carrier(|queue| slot_host(words, queue, serial))?;
+        Ok(Slots { _host: host, carrier, name: name_above(words, serial) })
+    }
+
+    /// The same connection with a new slot host.
+    fn renewed(self, words: &Words) -> Result<Slots> {
+        let serial = serial();
+        let carrier = self.carrier.with(|queue| slot_host(words, queue, serial))?;
+        Ok(Slots { carrier, name: name_above(words, serial), ..self })
+    }
+}
+
+/// A slot host whose serials are above this one.
+fn slot_host(words: &Words, queue: u16, serial: u64) -> vandrexu::Result<RemoteSlotHost> {
+    RemoteSlotHost::new(words.host, queue, words.area.first, words.area.count, serial)
+}
+
+/// The first name that it draws.
+fn name_above(words: &Words, serial: u64) -> Name {
+    Name { host: words.host, serial: serial + 1 }
+}
+
 fn run(words: &Words) -> Result<u8> {
-    let mut host = Host::connect(&dial(words), 1)?;
+    let began = Instant::now();
+    let wait = if let Task::Claim { wait } = words.task { wait } else { QUEUE };
+    let slots = Slots::connect(words, wait)?;
     match words.task {
-        Task::Status => status(&mut host, words),
-        Task::Claim { wait } => claim(host, words, wait),
-        Task::TakeOver { from } => take_over(host, words, from),
+        Task::Status => status(slots, words),
+        Task::Claim { .. } => claim(slots, words, wait.saturating_sub(began.elapsed())),
+        Task::TakeOver { from } => take_over(slots, words, from),
     }
 }
 
@@ -69,49 +119,41 @@ fn told(holder: Holder) -> String {
     }
 }
 
-fn status(host: &mut Host, words: &Words) -> Result<u8> {
+fn status(mut slots: Slots, words: &Words) -> Result<u8> {
     for slot in 0..words.area.count {
-        let Some(block) = words.area.block(slot) else { break };
-        println!("slot {slot}: {}", told(host.queues[0].holder(block)?));
+        println!("slot {slot}: {}", told(slots.carrier.holder(slot)?));
     }
     Ok(0)
 }
 
-/// A serial that this host didn't use before: the clock's, in which no two claims of one process are alike.
+/// A serial that this host didn't come to before: the clock's, in which no two claims of one process are alike.
 fn serial() -> u64 {
     let now = SystemTime::now().duration_since(SystemTime::UNIX_EPOCH).unwrap_or_default();
     (now.as_micros() as u64) << 12 | u64::from(std::process::id()) & 0xFFF
 }
 
-fn claim(mut host: Host, words: &Words, wait: Duration) -> Result<u8> {
-    let block = words.area.block(words.slot).unwrap_or_default();
+fn claim(mut slots: Slots, words: &Words, wait: Duration) -> Result<u8> {
     let began = Instant::now();
-    loop {
-        // (each claim has a name of its own, so a late one harms nobody)
-        let name = Name { host: words.host, serial: serial() };
-        if host.queues[0].claim(block, name)? {
-            return hold(host, words, block, name);
-        }
+    while !slots.carrier.claim(words.slot)? {
         if began.elapsed() >= wait {
-            break;
+            let holder = slots.carrier.holder(words.slot)?;
+            eprintln!("vandrexu-lock: slot {} isn't free; now: {}", words.slot, told(holder));
+            return Ok(NOT_GOT);
         }
         thread::sleep(PAUSE);
+        // (so each claim has a serial of the clock, which no other run with this host's number has)
+        slots = slots.renewed(words)?;
     }
-    let holder = host.queues[0].holder(block)?;
-    eprintln!("vandrexu-lock: slot {} isn't free; now: {}", words.slot, told(holder));
-    Ok(NOT_GOT)
+    hold(slots, words)
 }
 
-fn take_over(mut host: Host, words: &Words, from: u32) -> Result<u8> {
-    let block = words.area.block(words.slot).unwrap_or_default();
-    let holder = host.queues[0].holder(block)?;
+fn take_over(mut slots: Slots, words: &Words, from: u32) -> Result<u8> {
+    let holder = slots.carrier.holder(words.slot)?;
     if let Holder::Name(dead) = holder
         && dead.host == from
+        && slots.carrier.take_over(words.slot, dead)?
     {
-        let name = Name { host: words.host, serial: serial() };
-        if host.queues[0].take_over(block, dead, name)? {
-            return hold(host, words, block, name);
-        }
+        return hold(slots, words);
     }
     eprintln!("vandrexu-lock: host {from} doesn't hold slot {}; it was: {}", words.slot, told(holder));
     Ok(NOT_GOT)
@@ -126,7 +168,7 @@ fn ran(command: &mut Command) -> io::Result<u8> {
 }
 
 /// Runs the command, and releases the slot, whatever came of it.
-fn hold(host: Host, words: &Words, block: u64, name: Name) -> Result<u8> {
+fn hold(slots: Slots, words: &Words) -> Result<u8> {
     let ended = match words.command.split_first() {
         None => 0,
         Some((program, rest)) => ran(Command::new(program).args(rest)).unwrap_or_else(|error| {
@@ -134,7 +176,7 @@ fn hold(host: Host, words: &Words, block: u64, name: Name) -> Result<u8> {
             FAILED
         }),
     };
-    if release(host, words, block, name)? {
+    if release(slots, words)? {
         return Ok(ended);
     }
     eprintln!("vandrexu-lock: slot {} was taken from host {} while the command ran", words.slot, words.host);
@@ -142,16 +184,24 @@ fn hold(host: Host, words: &Words, block: u64, name: Name) -> Result<u8> {
 }
 
 /// Releases the slot; by another connection, if the first is lost.
-fn release(mut host: Host, words: &Words, block: u64, name: Name) -> Result<bool> {
-    match host.queues[0].release(block, name) {
+fn release(mut slots: Slots, words: &Words) -> Result<bool> {
+    match slots.carrier.release(words.slot) {
         Err(Error::Connection(_) | Error::Ended(..)) => {}
         told => return told,
     }
     // (the release may have been served before the connection was lost)
-    let mut again = Host::connect(&dial(words), 1)?;
-    match again.queues[0].holder(block)? {
-        Holder::Name(it) if it == name => again.queues[0].release(block, name),
+    let mut again = Slots::connect(words, QUEUE)?;
+    match again.carrier.holder(words.slot)? {
+        Holder::Name(it) if it == slots.name => release_again(again, words, it),
         Holder::Nobody => Ok(true),
         _ => Ok(false),
     }
+}
+
+/// Releases what another slot host of this program holds by this name: by a pair, since this one doesn't hold it.
+fn release_again(slots: Slots, words: &Words, name: Name) -> Result<bool> {
+    let block = words.area.block(words.slot).unwrap_or_default();
+    let Slots { _host, carrier, .. } = slots;
+    let mut pairs = carrier.with(|queue| RemoteHost::new(words.host, queue, 0))?;
+    pairs.compare_and_write(block, &block_of(name), &[0; BLOCK])
 }

@@ -17,7 +17,7 @@ vandrexu-lock: a lock between machines that share a disk over NVMe/TCP
 OPTIONS: --target ADDRESS:PORT   the target
          --area FIRST,COUNT      the slots: COUNT blocks from FIRST on, the same for all hosts
          --nqn NAME              the subsystem (nqn.2026-11.org.vandrexu:disk)
-         --name NAME             the name of this host (nqn.2026-11.org.vandrexu:lock:H)
+         --name NAME             the name of this host (nqn.2026-11.org.vandrexu:lock:H, or lock:status)
 
 The exit status is the command's own, or 128 and the signal that ended it; 1 where the slot wasn't got, 2 for a bad
 command line, 3 where the target can't be reached or refuses. Each host has a number of its own. A slot of a host that died

@@ -1,65 +1,17 @@
 //! The program against a target: commands of one slot never run at once, and a slot of a host that was killed is taken over.
+mod common;
+use common::{Random, Scene, is_legal, kill};
 use std::collections::HashSet;
+use std::io::{Read, Write};
+use std::net::{Shutdown, TcpListener, TcpStream};
 use std::os::unix::process::CommandExt;
-use std::path::{Path, PathBuf};
+use std::path::PathBuf;
 use std::process::{Child, Command, Output, Stdio};
-use std::sync::Mutex;
-use std::sync::atomic::{AtomicU32, Ordering};
+use std::sync::atomic::{AtomicBool, AtomicU32, Ordering};
+use std::sync::{Arc, Mutex};
 use std::time::{Duration, Instant};
-use std::{env, fs, process, thread};
-use vandrexu_target::{Options, Target};
-
-struct Scene {
-    folder: PathBuf,
-    target: Option<Target>,
-    address: String,
-}
-
-impl Scene {
-    fn new(name: &str) -> Scene {
-        let folder = env::temp_dir().join(format!("vandrexu-lock-{name}-{}", process::id()));
-        fs::create_dir_all(&folder).expect("a folder");
-        let options = Options {
-            listen: ([127, 0, 0, 1], 0).into(),
-            seed: Some(11),
-            history: Some(folder.join("history")),
-            ..Options::default()
-        };
-        let target = Target::start(options).expect("a target");
-        Scene { folder, address: target.address().to_string(), target: Some(target) }
-    }
-
-    fn program(&self, words: &[&str]) -> Command {
-        let mut it = Command::new(env!("CARGO_BIN_EXE_vandrexu-lock"));
-        let first = words.iter().take_while(|it| ["status", "take-over"].contains(it)).count();
-        it.args(&words[..first]).args(["--target", &self.address, "--area", "64,4"]).args(&words[first..]);
-        it
-    }
-
-    fn ran(&self, words: &[&str]) -> (i32, String, String) {
-        let Output { status, stdout, stderr } = self.program(words).output().expect("the program");
-        let text = |it| String::from_utf8(it).expect("a text");
-        (status.code().unwrap_or(-1), text(stdout), text(stderr))
-    }
-
-    /// A command that fails where another of its slot runs.
-    fn alone(&self, slot: u32) -> String {
-        let held = self.folder.join(format!("held-{slot}"));
-        format!("mkdir {0} || exit 77; sleep 0.0$(($$ % 5)); rmdir {0}; exit 7", held.display())
-    }
-}
-
-impl Drop for Scene {
-    fn drop(&mut self) {
-        drop(self.target.take());
-        let _ = fs::remove_dir_all(&self.folder);
-    }
-}
-
-fn legal(history: &Path) {
-    let said = vandrexu::check_text(fs::read(history).expect("a history"));
-    assert!(said.is_ok(), "{said:?}");
-}
+use std::{env, fs, thread};
+use vandrexu_target::{Config, Options};
 
 #[test]
 fn commands_of_one_slot_never_run_at_once() {
@@ -81,30 +33,51 @@ fn commands_of_one_slot_never_run_at_once() {
     let free = "slot 0: free\nslot 1: free\nslot 2: free\nslot 3: free\n";
     assert_eq!(scene.ran(&["status"]), (0, free.into(), String::new()));
     drop(scene.target.take());
-    legal(&scene.folder.join("history"));
+    is_legal(&scene.folder.join("history"));
 }
 
-/// Waits until a slot is held.
-fn until_held(scene: &Scene, by: &str) {
-    let began = Instant::now();
-    while !scene.ran(&["status"]).1.contains(by) {
-        assert!(began.elapsed() < Duration::from_secs(20), "nobody holds it");
-        thread::sleep(Duration::from_millis(20));
+/// Host 5, which holds a slot while its command runs.
+struct Holding {
+    host: Child,
+    go: PathBuf,
+}
+
+impl Holding {
+    /// It has the slot, by the target at this address, and its command has begun.
+    fn at(scene: &Scene, address: &str, slot: &str) -> Holding {
+        let (begun, go) = (scene.folder.join(format!("begun-{slot}")), scene.folder.join(format!("go-{slot}")));
+        // (it ends where the folder goes, too)
+        let script = format!(
+            "touch {0}; while [ -e {0} -a ! -e {1} ]; do sleep 0.02; done; exit 7",
+            begun.display(),
+            go.display()
+        );
+        let mut program = Command::new(env!("CARGO_BIN_EXE_vandrexu-lock"));
+        program.args(["--target", address, "--area", "64,4", "--slot", slot, "--host", "5", "--", "sh", "-c", &script]);
+        let host = program.process_group(0).stdout(Stdio::null()).spawn().expect("the program");
+        let began = Instant::now();
+        while !begun.exists() {
+            assert!(began.elapsed() < Duration::from_secs(20), "the command doesn't begin");
+            thread::sleep(Duration::from_millis(20));
+        }
+        Holding { host, go }
     }
-}
 
-fn sleeper(scene: &Scene) -> Child {
-    let words = ["--slot", "2", "--host", "5", "--", "sleep", "3"];
-    scene.program(&words).stdout(Stdio::null()).spawn().expect("the program")
+    fn of(scene: &Scene, slot: &str) -> Holding {
+        Holding::at(scene, &scene.address, slot)
+    }
+
+    /// Lets its command end; the status with which the program ends then.
+    fn end(mut self) -> Option<i32> {
+        fs::write(&self.go, "").expect("a file");
+        self.host.wait().expect("ended").code()
+    }
 }
 
 #[test]
 fn a_slot_of_a_host_that_was_killed_is_taken_over() {
     let scene = Scene::new("takeover");
-    let mut dead = sleeper(&scene);
-    until_held(&scene, "slot 2: host 5,");
-    dead.kill().expect("killed");
-    dead.wait().expect("ended");
+    kill(&mut Holding::of(&scene, "2").host);
     // (it stays held)
     let (status, _, told) = scene.ran(&["--slot", "2", "--host", "6", "--wait", "0.2", "--", "true"]);
     assert!(status == 1 && told.contains("now: host 5"), "{status}: {told}");
@@ -120,38 +93,35 @@ fn a_slot_of_a_host_that_was_killed_is_taken_over() {
 #[test]
 fn an_interrupt_ends_the_command_and_the_slot_is_released() {
     let scene = Scene::new("interrupt");
-    let begun = scene.folder.join("begun");
-    let script = format!("touch {}; exec sleep 60", begun.display());
-    let words = ["--slot", "2", "--host", "5", "--", "sh", "-c", &script];
-    let mut host = scene.program(&words).process_group(0).spawn().expect("the program");
-    let began = Instant::now();
-    while !begun.exists() {
-        assert!(began.elapsed() < Duration::from_secs(20), "the command doesn't begin");
-        thread::sleep(Duration::from_millis(20));
-    }
-    until_held(&scene, "slot 2: host 5,");
-    let group = format!("-{}", host.id());
+    let mut holding = Holding::of(&scene, "2");
+    assert!(scene.ran(&["status"]).1.contains("slot 2: host 5,"));
+    let group = format!("-{}", holding.host.id());
     assert!(Command::new("kill").args(["-INT", "--", &group]).status().expect("kill").success());
-    assert_eq!(host.wait().expect("ended").code(), Some(130));
+    assert_eq!(holding.host.wait().expect("ended").code(), Some(130));
     assert!(scene.ran(&["status"]).1.contains("slot 2: free"));
+}
+
+#[test]
+fn where_no_queue_is_free_one_is_waited_for() {
+    let one = |it: Options| Options { config: Config { pairs: 1, cqs: 1, ..it.config }, ..it };
+    let scene = Scene::with("full", |_, it| one(it));
+    let first = Holding::of(&scene, "2");
+    let (status, _, told) = scene.ran(&["--slot", "0", "--host", "6", "--", "true"]);
+    assert!(status == 3 && told.contains("status 1/81"), "{status}: {told}");
+    let mut waits = scene.program(&["--slot", "0", "--host", "6", "--wait", "20", "--", "true"]).spawn().expect("it");
+    thread::sleep(Duration::from_millis(300));
+    assert_eq!(waits.try_wait().expect("it waits"), None);
+    assert_eq!(first.end(), Some(7));
+    assert_eq!(waits.wait().expect("ended").code(), Some(0));
 }
 
 #[test]
 fn who_lost_its_slot_is_told() {
     let scene = Scene::new("lost");
-    let mut slow = sleeper(&scene);
-    until_held(&scene, "slot 2: host 5,");
+    let slow = Holding::of(&scene, "2");
     // (host 5 isn't fenced at all: this is what must not be done)
     assert_eq!(scene.ran(&["take-over", "--slot", "2", "--host", "6", "--from", "5", "--fenced"]).0, 0);
-    assert_eq!(slow.wait().expect("ended").code(), Some(1));
-}
-
-/// A host with its command, in a process group of its own, so that killing it fences both.
-fn host_of(scene: &Scene, slot: &str, host: &str) -> Child {
-    let script = scene.alone(slot.parse().expect("a number"));
-    let words = ["--slot", slot, "--host", host, "--wait", "2", "--", "sh", "-c", &script];
-    let mut program = scene.program(&words);
-    program.process_group(0).stdout(Stdio::null()).stderr(Stdio::null()).spawn().expect("the program")
+    assert_eq!(slow.end(), Some(1));
 }
 
 /// Whoever of the dead holds a slot, told by `status`.
@@ -178,20 +148,13 @@ fn bury(scene: &Scene, dead: &Mutex<HashSet<u32>>, numbers: &AtomicU32) {
 
 /// One machine, whose hosts claim slots and are killed now and then; how often a command ran, and how many were killed.
 fn machine(scene: &Scene, seed: u32, end: Instant, dead: &Mutex<HashSet<u32>>, numbers: &AtomicU32) -> (u32, u32) {
-    let (mut random, mut ran, mut killed) = (seed * 77 + 1, 0, 0);
-    let mut below = |count: u32| {
-        random = random.wrapping_mul(1_664_525).wrapping_add(1_013_904_223);
-        (random >> 16) % count
-    };
+    let (mut random, mut ran, mut killed) = (Random(seed * 77 + 1), 0, 0);
     while Instant::now() < end {
         let number = numbers.fetch_add(1, Ordering::Relaxed);
-        let mut host = host_of(scene, &below(4).to_string(), &number.to_string());
-        if below(4) == 0 {
-            thread::sleep(Duration::from_millis(below(40).into()));
-            // (all of its process group, and so the command, too)
-            let group = format!("-{}", host.id());
-            Command::new("kill").args(["-9", "--", &group]).stderr(Stdio::null()).status().expect("kill");
-            host.wait().expect("ended");
+        let mut host = scene.host(random.below(4), number, "2");
+        if random.below(4) == 0 {
+            thread::sleep(Duration::from_millis(random.below(40).into()));
+            kill(&mut host);
             dead.lock().expect("a lock").insert(number);
             killed += 1;
         } else {
@@ -228,10 +191,83 @@ fn hosts_race_while_others_are_killed_and_taken_over() {
     assert!(sum(|it| it.0) > 0 && sum(|it| it.1) > 0);
 }
 
+/// Stands between hosts and a target, and cuts their connections when it is told to.
+struct Cutter {
+    address: String,
+    cut: Arc<Mutex<Vec<TcpStream>>>,
+    mute: Arc<AtomicBool>,
+}
+
+impl Cutter {
+    fn before(target: &str) -> Cutter {
+        let listener = TcpListener::bind("127.0.0.1:0").expect("a port");
+        let (address, target) = (listener.local_addr().expect("an address").to_string(), target.to_string());
+        let (cut, mute) = (Arc::new(Mutex::new(vec![])), Arc::new(AtomicBool::new(false)));
+        let (known, is_mute) = (cut.clone(), mute.clone());
+        thread::spawn(move || {
+            for host in listener.incoming().flatten() {
+                let Ok(target) = TcpStream::connect(&target) else { break };
+                for (from, to, is_answer) in [(&host, &target, false), (&target, &host, true)] {
+                    let (from, to, is_mute) = (from.try_clone().unwrap(), to.try_clone().unwrap(), is_mute.clone());
+                    thread::spawn(move || pass(from, to, is_answer.then_some(&is_mute)));
+                }
+                known.lock().expect("a lock").extend([host, target]);
+            }
+        });
+        Cutter { address, cut, mute }
+    }
+
+    /// Cuts the connections that there are.
+    fn cut(&self) {
+        let all: Vec<TcpStream> = self.cut.lock().expect("a lock").drain(..).collect();
+        for it in all {
+            let _ = it.shutdown(Shutdown::Both);
+        }
+    }
+
+    /// Cuts each connection in place of its next answer; once.
+    fn cut_an_answer(&self) {
+        self.mute.store(true, Ordering::SeqCst);
+    }
+}
+
+/// Passes bytes on, until a connection is cut.
+fn pass(mut from: TcpStream, mut to: TcpStream, mute: Option<&AtomicBool>) {
+    let mut bytes = [0; 4096];
+    while let Ok(count @ 1..) = from.read(&mut bytes) {
+        if mute.is_some_and(|it| it.swap(false, Ordering::SeqCst)) || to.write_all(&bytes[..count]).is_err() {
+            break;
+        }
+    }
+    let _ = (from.shutdown(Shutdown::Both), to.shutdown(Shutdown::Both));
+}
+
+#[test]
+fn a_release_whose_connection_is_lost_is_made_again_or_found_done() {
+    let scene = Scene::new("cut");
+    let cutter = Cutter::before(&scene.address);
+    for (slot, is_served) in [("1", false), ("2", true)] {
+        let holding = Holding::at(&scene, &cutter.address, slot);
+        assert!(scene.ran(&["status"]).1.contains(&format!("slot {slot}: host 5,")));
+        if is_served {
+            cutter.cut_an_answer();
+        } else {
+            cutter.cut();
+        }
+        assert_eq!(holding.end(), Some(7), "slot {slot}");
+        assert!(scene.ran(&["status"]).1.contains(&format!("slot {slot}: free")));
+    }
+}
+
 #[test]
 fn what_is_wrong_has_its_status() {
     let scene = Scene::new("wrong");
     assert_eq!(scene.ran(&["--slot", "9", "--host", "1", "--", "true"]).0, 2);
+    // (no disk has such a slot)
+    let beyond = ["status", "--target", &scene.address, "--area", "65535,2"];
+    let Output { status, stderr, .. } =
+        Command::new(env!("CARGO_BIN_EXE_vandrexu-lock")).args(beyond).output().unwrap();
+    assert!(status.code() == Some(3) && String::from_utf8_lossy(&stderr).contains("behind block 65,535"));
     assert_eq!(scene.ran(&["--slot", "0", "--host", "1", "--nqn", "nqn.none", "--", "true"]).0, 3);
     assert_eq!(scene.ran(&["--slot", "0", "--host", "1", "--", "/no/such/program"]).0, 3);
     assert!(scene.ran(&["status"]).1.starts_with("slot 0: free"));

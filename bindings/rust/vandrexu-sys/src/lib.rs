@@ -1,5 +1,6 @@
-//! The declarations of `include/vandrexu.h`, `include/vandrexu_hosts.h` and `include/vandrexu_slots.h`, name by name. What
-//! a call does, what it is given and what it answers stands in these headers; the crate `vandrexu` has it in safe Rust.
+//! The declarations of the headers in `include/`, name by name: `vandrexu.h`, `vandrexu_hosts.h`, `vandrexu_slots.h` and
+//! `vandrexu_remote.h`. What a call does, what it is given and what it answers stands there; the crate `vandrexu` has it
+//! in safe Rust.
 //!
 //! The build is told by `VANDREXU_LIB_DIR` in which folder libvandrexu_c.a lies. tests/header.rs compares each
 //! constant, layout and function with the headers.
@@ -184,6 +185,20 @@ pub struct vandrexu_slot_checker {
     pub live: u32,
 }
 
+#[repr(C)]
+#[derive(Debug)]
+pub struct vandrexu_remote {
+    pub at: *mut c_void,
+    pub live: u32,
+}
+
+#[repr(C)]
+#[derive(Debug)]
+pub struct vandrexu_remote_slot_host {
+    pub at: *mut c_void,
+    pub live: u32,
+}
+
 pub const VANDREXU_CONTROLLER_NONE: vandrexu_controller = vandrexu_controller { at: ptr::null_mut(), live: 0 };
 pub const VANDREXU_CHECKER_NONE: vandrexu_checker = vandrexu_checker { at: ptr::null_mut(), live: 0 };
 pub const VANDREXU_DISK_NONE: vandrexu_disk = vandrexu_disk { at: ptr::null_mut(), live: 0 };
@@ -191,6 +206,9 @@ pub const VANDREXU_HOST_NONE: vandrexu_host = vandrexu_host { at: ptr::null_mut(
 pub const VANDREXU_SLOT_HOST_NONE: vandrexu_slot_host = vandrexu_slot_host { at: ptr::null_mut(), live: 0 };
 pub const VANDREXU_TRACER_NONE: vandrexu_tracer = vandrexu_tracer { at: ptr::null_mut(), live: 0 };
 pub const VANDREXU_SLOT_CHECKER_NONE: vandrexu_slot_checker = vandrexu_slot_checker { at: ptr::null_mut(), live: 0 };
+pub const VANDREXU_REMOTE_NONE: vandrexu_remote = vandrexu_remote { at: ptr::null_mut(), live: 0 };
+pub const VANDREXU_REMOTE_SLOT_HOST_NONE: vandrexu_remote_slot_host =
+    vandrexu_remote_slot_host { at: ptr::null_mut(), live: 0 };
 
 // ---- What is lent to calls
 
@@ -272,6 +290,16 @@ pub struct vandrexu_slot_reply {
     pub sct: u8,
     pub sc: u8,
     pub zeros: [u8; 2],
+}
+
+#[repr(C)]
+#[derive(Clone, Copy, Debug, PartialEq, Eq)]
+pub struct vandrexu_outgoing {
+    pub bytes: [u8; 64],
+    pub count: usize,
+    pub more: usize,
+    pub queue: u16,
+    pub zeros: [u8; 6],
 }
 
 unsafe extern "C" {
@@ -458,4 +486,86 @@ unsafe extern "C" {
         room: usize,
         needed: *mut usize,
     ) -> u32;
+    pub fn vandrexu_remote_new(
+        number: u32,
+        queue: u16,
+        acwu: u16,
+        first: u64,
+        blocks: u32,
+        remote: *mut vandrexu_remote,
+    ) -> u32;
+    pub fn vandrexu_remote_free(remote: *mut vandrexu_remote);
+    pub fn vandrexu_remote_read(remote: *mut vandrexu_remote, lba: u64, blocks: u32, call: *mut u32) -> u32;
+    pub fn vandrexu_remote_write_zeroes(remote: *mut vandrexu_remote, lba: u64, blocks: u32, call: *mut u32) -> u32;
+    pub fn vandrexu_remote_write(
+        remote: *mut vandrexu_remote,
+        lba: u64,
+        data: *const u8,
+        length: usize,
+        call: *mut u32,
+    ) -> u32;
+    pub fn vandrexu_remote_compare(
+        remote: *mut vandrexu_remote,
+        lba: u64,
+        data: *const u8,
+        length: usize,
+        call: *mut u32,
+    ) -> u32;
+    pub fn vandrexu_remote_compare_and_write(
+        remote: *mut vandrexu_remote,
+        lba: u64,
+        expected: *const u8,
+        expected_length: usize,
+        desired: *const u8,
+        desired_length: usize,
+        call: *mut u32,
+    ) -> u32;
+    pub fn vandrexu_remote_poll(remote: *mut vandrexu_remote, call: u32, reply: *mut vandrexu_reply) -> u32;
+    pub fn vandrexu_remote_data(remote: *mut vandrexu_remote, out: *mut u8, room: usize, needed: *mut usize) -> u32;
+    pub fn vandrexu_remote_outgoing(
+        remote: *mut vandrexu_remote,
+        entry: *mut vandrexu_outgoing,
+        out: *mut u8,
+        room: usize,
+    ) -> u32;
+    pub fn vandrexu_remote_incoming(
+        remote: *mut vandrexu_remote,
+        cqe: *const u8,
+        data: *const u8,
+        length: usize,
+    ) -> u32;
+    pub fn vandrexu_remote_dropped(remote: *mut vandrexu_remote, count: *mut u64) -> u32;
+    pub fn vandrexu_remote_slot_host_new(
+        number: u32,
+        queue: u16,
+        first: u64,
+        count: u32,
+        serial: u64,
+        host: *mut vandrexu_remote_slot_host,
+    ) -> u32;
+    pub fn vandrexu_remote_slot_host_free(host: *mut vandrexu_remote_slot_host);
+    pub fn vandrexu_remote_slot_claim(host: *mut vandrexu_remote_slot_host, slot: u32) -> u32;
+    pub fn vandrexu_remote_slot_claim_any(host: *mut vandrexu_remote_slot_host) -> u32;
+    pub fn vandrexu_remote_slot_release(host: *mut vandrexu_remote_slot_host, slot: u32) -> u32;
+    pub fn vandrexu_remote_slot_take_over(
+        host: *mut vandrexu_remote_slot_host,
+        slot: u32,
+        dead_host: u32,
+        dead_serial: u64,
+    ) -> u32;
+    pub fn vandrexu_remote_slot_ask_holder(host: *mut vandrexu_remote_slot_host, slot: u32) -> u32;
+    pub fn vandrexu_remote_slot_poll(host: *mut vandrexu_remote_slot_host, reply: *mut vandrexu_slot_reply) -> u32;
+    pub fn vandrexu_remote_slot_outgoing(
+        host: *mut vandrexu_remote_slot_host,
+        entry: *mut vandrexu_outgoing,
+        out: *mut u8,
+        room: usize,
+    ) -> u32;
+    pub fn vandrexu_remote_slot_incoming(
+        host: *mut vandrexu_remote_slot_host,
+        cqe: *const u8,
+        data: *const u8,
+        length: usize,
+    ) -> u32;
+    pub fn vandrexu_remote_slot_dropped(host: *mut vandrexu_remote_slot_host, count: *mut u64) -> u32;
 }

@@ -113,3 +113,73 @@ fn a_room_that_is_too_small_is_told_how_much_is_wanted() {
         vandrexu_controller_free(&mut disk);
     }
 }
+
+#[test]
+fn so_do_the_handles_of_remote_hosts() {
+    let (mut remote, mut host) = (VANDREXU_REMOTE_NONE, VANDREXU_REMOTE_SLOT_HOST_NONE);
+    let mut entry = vandrexu_outgoing { bytes: [9; 64], count: 9, more: 9, queue: 9, zeros: [9; 6] };
+    let (mut reply, mut slot_reply) = (vandrexu_reply::default(), vandrexu_slot_reply::default());
+    let (mut call, mut count, mut needed, mut out, cqe) = (7, 7, 7, [7; 512], [0; 16]);
+    unsafe {
+        for _ in 0..2 {
+            for answer in [
+                vandrexu_remote_read(&mut remote, 0, 1, &mut call),
+                vandrexu_remote_poll(&mut remote, 0, &mut reply),
+                vandrexu_remote_data(&mut remote, out.as_mut_ptr(), 512, &mut needed),
+                vandrexu_remote_outgoing(&mut remote, &mut entry, out.as_mut_ptr(), 512),
+                vandrexu_remote_incoming(&mut remote, cqe.as_ptr(), out.as_ptr(), 0),
+                vandrexu_remote_dropped(&mut remote, &mut count),
+                vandrexu_remote_slot_claim(&mut host, 0),
+                vandrexu_remote_slot_claim_any(&mut host),
+                vandrexu_remote_slot_release(&mut host, 0),
+                vandrexu_remote_slot_take_over(&mut host, 0, 2, 1),
+                vandrexu_remote_slot_ask_holder(&mut host, 0),
+                vandrexu_remote_slot_poll(&mut host, &mut slot_reply),
+                vandrexu_remote_slot_outgoing(&mut host, &mut entry, out.as_mut_ptr(), 512),
+                vandrexu_remote_slot_incoming(&mut host, cqe.as_ptr(), out.as_ptr(), 0),
+                vandrexu_remote_slot_dropped(&mut host, &mut count),
+            ] {
+                assert_eq!(answer, VANDREXU_NO_HANDLE);
+            }
+            assert_eq!(vandrexu_remote_new(1, 1, 0, 0, 0, &mut remote), VANDREXU_DONE);
+            assert_eq!(vandrexu_remote_new(0, 0, 0, 65537, 0, &mut remote), VANDREXU_IN_USE);
+            assert_eq!(vandrexu_remote_slot_host_new(1, 1, 2, 4, 0, &mut host), VANDREXU_DONE);
+            assert_eq!(vandrexu_remote_slot_host_new(0, 0, 2, 0, 0, &mut host), VANDREXU_IN_USE);
+            for _ in 0..2 {
+                vandrexu_remote_free(&mut remote);
+                vandrexu_remote_slot_host_free(&mut host);
+                assert_eq!((remote.at, remote.live), (ptr::null_mut(), 0));
+                assert_eq!((host.at, host.live), (ptr::null_mut(), 0));
+            }
+        }
+    }
+    assert_eq!((call, count, needed, out, entry.bytes), (7, 7, 7, [7; 512], [9; 64]));
+    assert_eq!((reply, slot_reply), (vandrexu_reply::default(), vandrexu_slot_reply::default()));
+}
+
+#[test]
+fn so_is_that_of_an_entry_that_is_to_be_carried() {
+    let mut remote = VANDREXU_REMOTE_NONE;
+    let mut entry = vandrexu_outgoing { bytes: [9; 64], count: 9, more: 9, queue: 9, zeros: [9; 6] };
+    let (mut call, mut needed, mut out, data, mut cqe) = (7, 7, [7; 512], [0xA1; 512], [0; 16]);
+    (cqe[10], cqe[12]) = (1, 1);
+    let mut reply = vandrexu_reply::default();
+    unsafe {
+        assert_eq!(vandrexu_remote_new(1, 1, 0, 0, 0, &mut remote), VANDREXU_DONE);
+        assert_eq!(vandrexu_remote_write(&mut remote, 3, data.as_ptr(), 512, &mut call), VANDREXU_DONE);
+        assert_eq!(vandrexu_remote_read(&mut remote, 3, 1, &mut call), VANDREXU_DONE);
+        assert_eq!(vandrexu_remote_outgoing(&mut remote, &mut entry, out.as_mut_ptr(), 511), VANDREXU_TOO_SMALL);
+        assert_eq!((entry.bytes[0], entry.count, entry.more, entry.queue, entry.zeros), (1, 512, 0, 1, [0; 6]));
+        assert_eq!(out, [7; 512]);
+        assert_eq!(vandrexu_remote_outgoing(&mut remote, &mut entry, out.as_mut_ptr(), 512), VANDREXU_DONE);
+        assert_eq!((entry.bytes[0], out), (1, data));
+        assert_eq!(vandrexu_remote_outgoing(&mut remote, &mut entry, out.as_mut_ptr(), 0), VANDREXU_DONE);
+        assert_eq!(vandrexu_remote_outgoing(&mut remote, &mut entry, out.as_mut_ptr(), 0), VANDREXU_NOTHING_READY);
+        out = [7; 512];
+        assert_eq!(vandrexu_remote_incoming(&mut remote, cqe.as_ptr(), data.as_ptr(), 512), VANDREXU_DONE);
+        assert_eq!(vandrexu_remote_poll(&mut remote, call, &mut reply), VANDREXU_DONE);
+        assert_eq!(vandrexu_remote_data(&mut remote, out.as_mut_ptr(), 511, &mut needed), VANDREXU_TOO_SMALL);
+        assert_eq!((reply.kind, needed, out), (VANDREXU_REPLY_READ, 512, [7; 512]));
+        vandrexu_remote_free(&mut remote);
+    }
+}

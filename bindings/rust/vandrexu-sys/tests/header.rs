@@ -1,12 +1,12 @@
-//! Reads include/vandrexu.h, include/vandrexu_hosts.h and include/vandrexu_slots.h, and compares with them what this crate
-//! declares: its constants, layouts and functions.
+//! Reads the headers in include/, and compares with them what this crate declares: its constants, layouts and functions.
 use std::collections::BTreeMap;
 use std::mem::{offset_of, size_of};
 
 const HEADER: &str = concat!(
     include_str!("../../../../include/vandrexu.h"),
     include_str!("../../../../include/vandrexu_hosts.h"),
-    include_str!("../../../../include/vandrexu_slots.h")
+    include_str!("../../../../include/vandrexu_slots.h"),
+    include_str!("../../../../include/vandrexu_remote.h")
 );
 const DECLARED: &str = include_str!("../src/lib.rs");
 
@@ -72,8 +72,8 @@ fn the_constants_are_those_of_the_header() {
     let constants = DECLARED.matches("pub const VANDREXU_").count();
     assert_eq!(
         constants,
-        declared.len() + 8,
-        "a constant is compared with nothing: the version and seven handles aside"
+        declared.len() + 10,
+        "a constant is compared with nothing: the version and nine handles aside"
     );
 }
 
@@ -146,6 +146,8 @@ fn the_layouts_are_those_of_the_header() {
         vandrexu_disk { at live }
         vandrexu_host { at live }
         vandrexu_slot_host { at live }
+        vandrexu_remote { at live }
+        vandrexu_remote_slot_host { at live }
         vandrexu_reply { kind sct sc zeros }
         vandrexu_slot_reply { kind slot serial host sct sc zeros }
         vandrexu_config { blocks awun acwu nabsn nabo pairs sq_size cq_size jobs cqs }
@@ -154,6 +156,7 @@ fn the_layouts_are_those_of_the_header() {
         vandrexu_granted { unit slba blocks mode }
         vandrexu_blocked { lba found effect ended zeros }
         vandrexu_step { ticket kind }
+        vandrexu_outgoing { bytes count more queue zeros }
     };
     assert_eq!(declared, laid_out());
     // what the headers themselves assert of them

@@ -29,6 +29,7 @@ impl Engine {
             for group in groups {
                 match group[0].verdict {
                     Some(status) => self.answer_here(at, &group, status),
+                    None if self.transport_only => self.answer_here(at, &group, Status::SUCCESS),
                     None if is_over => self.answer_here(at, &group, Status::INTERNAL.no_retry()),
                     None => published.push(group),
                 }
@@ -54,10 +55,11 @@ impl Engine {
         found
     }
 
-    /// Answers commands that the controller isn't given.
+    /// Answers commands that the controller isn't given; a Read with zeros.
     fn answer_here(&mut self, at: usize, group: &[Capsule], status: Status) {
-        for capsule in group {
-            self.replies.push(Reply::of_target(at, capsule.command.cid(), status));
+        for Capsule { command, .. } in group {
+            let zeros = if status.is(Status::SUCCESS) { reads(command) } else { 0 };
+            self.replies.push(Reply::of_target(at, command.cid(), status, zeros));
         }
     }
 
@@ -128,7 +130,7 @@ impl Engine {
 
     /// Tells a Write as done, and gives it to the controller later.
     fn tell_early(&mut self, at: usize, mut capsule: Capsule) {
-        self.replies.push(Reply::of_target(at, capsule.command.cid(), Status::SUCCESS));
+        self.replies.push(Reply::of_target(at, capsule.command.cid(), Status::SUCCESS, 0));
         capsule.command = own(&capsule.command);
         self.delay(at, capsule, Plan::Silent);
     }

@@ -24,10 +24,10 @@ pub(crate) struct Reply {
 }
 
 impl Reply {
-    /// The target's own answer to a command that the controller isn't given.
-    pub(crate) fn of_target(at: usize, cid: u16, status: Status) -> Reply {
+    /// The target's own answer to a command that the controller isn't given, with as many zeros.
+    pub(crate) fn of_target(at: usize, cid: u16, status: Status, zeros: usize) -> Reply {
         let completion = Completion::new(cid, status, 0);
-        Reply { at, completion, data: vec![], taken: 1, phase: 0, skew: 0, is_traced: true }
+        Reply { at, completion, data: vec![0; zeros], taken: 1, phase: 0, skew: 0, is_traced: true }
     }
 }
 

@@ -74,6 +74,7 @@ impl Connection {
         if asked.host.is_empty() || !(options.allow.is_empty() || options.allow.contains(&asked.host)) {
             return Err((Status::CONNECT_HOST.no_retry(), 0));
         }
+        self.shared.hosts().name(self.id, &asked.host);
         let most = u32::from(options.config.sq_size.min(options.config.cq_size));
         if asked.slots < 2 || asked.qid != 0 && asked.slots > most {
             return Err(in_entry(44));
@@ -131,8 +132,9 @@ impl Connection {
     fn open_pair(&self, asked: &Asked) -> bool {
         for _ in 0..200 {
             let (answer, told) = channel();
+            let (id, qid, host) = (self.id, asked.qid, asked.host.clone());
             let (out, slots) = (self.out.clone(), asked.slots as u16);
-            let _ = self.shared.engine.send(Message::Open { id: self.id, qid: asked.qid, slots, out, answer });
+            let _ = self.shared.engine.send(Message::Open { id, host, qid, slots, out, answer });
             match told.recv() {
                 Ok(true) => return true,
                 Ok(false) => thread::sleep(Duration::from_millis(10)),

@@ -19,6 +19,8 @@ pub(crate) enum Message {
     Open {
         /// The connection.
         id: u64,
+        /// The host's name.
+        host: String,
         /// Its number for the host.
         qid: u16,
         /// Its slots.
@@ -73,6 +75,7 @@ pub(crate) struct Engine {
     pub(crate) disk: Controller,
     pub(crate) config: Config,
     pub(crate) strict: bool,
+    pub(crate) transport_only: bool,
     pub(crate) pairs: Vec<Pair>,
     pub(crate) planner: Planner,
     pub(crate) trace: Trace,
@@ -135,6 +138,7 @@ impl Engine {
             disk,
             config,
             strict: options.strict,
+            transport_only: options.transport_only,
             pairs,
             planner,
             trace: Trace::create(options.trace.as_deref(), &format!("{config}{option}"))?,
@@ -213,10 +217,11 @@ impl Engine {
 
     fn take(&mut self, message: Message) {
         match message {
-            Message::Open { id, qid, slots, out, answer } => {
-                let free = self.pairs.iter().position(Pair::is_free);
+            Message::Open { id, host, qid, slots, out, answer } => {
+                let free = self.pair_for(&host, qid);
                 if let Some(at) = free {
                     self.pairs[at].queue = Some(Queue::new(qid, slots, out));
+                    self.pairs[at].owner = Some((host, qid));
                     self.by_id.insert(id, at);
                 }
                 // (a connection that ended meanwhile says so next)
@@ -234,6 +239,17 @@ impl Engine {
                 }
             }
             Message::End => {}
+        }
+    }
+
+    /// The pair that a queue of a host gets: the one that it had before, and left; else one that nobody had; else one that is
+    /// free. So hosts that come and go have a pair each in the history, as long as there are enough.
+    fn pair_for(&self, host: &str, qid: u16) -> Option<usize> {
+        let find = |is: &dyn Fn(&Pair) -> bool| self.pairs.iter().position(is);
+        match find(&|it| it.is_of(host, qid) && !it.is_live()) {
+            // (it may have to be drained first)
+            Some(own) => self.pairs[own].is_free().then_some(own),
+            None => find(&|it| it.owner.is_none() && it.is_free()).or_else(|| find(&Pair::is_free)),
         }
     }
 

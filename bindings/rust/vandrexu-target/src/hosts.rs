@@ -34,11 +34,19 @@ impl Controller {
     }
 }
 
+/// A connection.
+#[derive(Debug)]
+struct Known {
+    socket: TcpStream,
+    /// The host's name, once its Connect came.
+    host: String,
+}
+
 /// All of them.
 #[derive(Debug, Default)]
 pub(crate) struct Hosts {
     controllers: BTreeMap<u16, Controller>,
-    sockets: HashMap<u64, TcpStream>,
+    known: HashMap<u64, Known>,
     last: u16,
 }
 
@@ -62,22 +70,32 @@ const LAST: u16 = 0xFFEF;
 impl Hosts {
     /// Notes a connection, unless there are so many that it can't even be answered.
     pub(crate) fn admit(&mut self, id: u64, socket: TcpStream, most: usize) -> Admitted {
-        let before = self.sockets.len();
+        let before = self.known.len();
         if before >= most + ANSWERED {
             return Admitted::No;
         }
-        self.sockets.insert(id, socket);
+        self.known.insert(id, Known { socket, host: String::new() });
         if before >= most { Admitted::ToBeRefused } else { Admitted::Yes }
     }
 
     /// How many connections there are.
     pub(crate) fn connections(&self) -> usize {
-        self.sockets.len()
+        self.known.len()
+    }
+
+    /// Notes whose connection this is.
+    pub(crate) fn name(&mut self, id: u64, host: &str) {
+        self.known.get_mut(&id).into_iter().for_each(|it| host.clone_into(&mut it.host));
+    }
+
+    /// Whether a connection is of this host.
+    pub(crate) fn has(&self, host: &str) -> bool {
+        self.known.values().any(|it| it.host == host)
     }
 
     /// Ends all connections.
     pub(crate) fn end_all(&self) {
-        self.sockets.values().for_each(end);
+        self.known.values().for_each(end);
     }
 
     /// A new controller: its number.
@@ -148,14 +166,14 @@ impl Hosts {
     pub(crate) fn end_queues(&mut self, number: u16) {
         let Some(it) = self.controllers.get_mut(&number) else { return };
         for connection in it.open.values() {
-            self.sockets.get(connection).into_iter().for_each(end);
+            self.known.get(connection).into_iter().for_each(end);
         }
         it.open.clear();
     }
 
     /// Forgets a connection.
     pub(crate) fn forget(&mut self, id: u64) {
-        self.sockets.remove(&id);
+        self.known.remove(&id);
     }
 
     /// Forgets a queue of a connection; with the admin queue goes its controller.
@@ -172,6 +190,6 @@ impl Hosts {
 }
 
 // (a socket that is closed already can't be shut down, which is as well)
-fn end(socket: &TcpStream) {
-    let _ = socket.shutdown(Shutdown::Both);
+fn end(it: &Known) {
+    let _ = it.socket.shutdown(Shutdown::Both);
 }

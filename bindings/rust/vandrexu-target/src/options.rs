@@ -28,6 +28,8 @@ pub struct Options {
     pub naive: bool,
     /// What it does wrong on purpose.
     pub fault: Option<Fault>,
+    /// Whether it gives the controller nothing, and answers each command at once.
+    pub transport_only: bool,
     /// Names of hosts that may connect; all, where there is none.
     pub allow: Vec<String>,
     /// The most connections.
@@ -65,6 +67,7 @@ impl Default for Options {
             strict: false,
             naive: false,
             fault: None,
+            transport_only: false,
             allow: vec![],
             connections: 64,
             memory: None,
@@ -94,6 +97,7 @@ vandrexu-target [OPTION ..]: an NVMe/TCP target over the Vandrexu controller
   --strict                leaves hints in the entries as they come
   --naive                 serves a fused pair as two commands
   --fault NAME[:N]        does this wrong, every N-th time (5); '--fault list' lists them
+  --transport-only        answers each command at once, and does nothing: for measuring what the transport takes
   --verbose               says what it does
 
 Nothing authenticates hosts but their names.
@@ -113,6 +117,7 @@ impl Options {
                 "--strict" => options.strict = true,
                 "--naive" => options.naive = true,
                 "--verbose" => options.verbose = true,
+                "--transport-only" => options.transport_only = true,
                 name => {
                     let value = words.next().ok_or_else(|| format!("{name} wants a value, or isn't an option"))?;
                     if name == "--blocks" {

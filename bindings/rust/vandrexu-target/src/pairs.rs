@@ -90,9 +90,21 @@ pub(crate) struct Pair {
     pub unfetched: usize,
     /// The head that the last completion told.
     pub head: u16,
+    /// Which queue of which host has it, or had it last.
+    pub owner: Option<(String, u16)>,
 }
 
 impl Pair {
+    /// Whether this queue of this host has it, or had it last.
+    pub(crate) fn is_of(&self, host: &str, qid: u16) -> bool {
+        self.owner.as_ref().is_some_and(|it| (it.0.as_str(), it.1) == (host, qid))
+    }
+
+    /// Whether a connection has it.
+    pub(crate) fn is_live(&self) -> bool {
+        self.queue.as_ref().is_some_and(|it| it.out.is_some())
+    }
+
     /// Whether another queue may have it: nothing of the last one is in it.
     pub(crate) fn is_free(&self) -> bool {
         match &self.queue {

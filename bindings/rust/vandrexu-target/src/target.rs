@@ -88,6 +88,12 @@ impl Target {
         self.shared.hosts().connections()
     }
 
+    /// Whether a host of this name has a connection. Where none has, all that it sent is with the controller or lost.
+    #[must_use]
+    pub fn has(&self, host: &str) -> bool {
+        self.shared.hosts().has(host)
+    }
+
     /// Waits until its engine ends, which it does where a file can't be written.
     ///
     /// # Errors

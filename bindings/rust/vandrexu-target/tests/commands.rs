@@ -1,6 +1,6 @@
 //! Each I/O command, as a host sends it over a connection.
 mod common;
-use common::{DONE, Folder, blocks, code, dial, host, is_explained, is_legal, options, read, start, write};
+use common::{DONE, Folder, blocks, code, dial, host, is_explained, is_legal, options, read, start, until, write};
 use std::time::Duration;
 use vandrexu_initiator::{BLOCK, Command, Dial, Host, Status, fabrics, opcode};
 use vandrexu_target::Options;
@@ -219,6 +219,8 @@ fn commands_in_flight_end_in_another_order_by_a_seed_and_all_is_explained() {
 fn queues_come_and_go_and_leave_nothing() {
     let target = start(options());
     for round in 0..60 {
+        // (a host that left has its queues until the target saw it leave)
+        until("queues are free", || target.connections() <= 10);
         let mut host = host(&target, 4);
         for queue in &mut host.queues {
             for slba in 0..8 {
@@ -227,10 +229,62 @@ fn queues_come_and_go_and_leave_nothing() {
         }
         // (the host leaves with commands in flight)
     }
+    until("all queues are free", || target.connections() == 0);
     let mut host = host(&target, 16);
     assert_eq!(host.queues.len(), 16);
     assert_eq!(write(&mut host, 1, &blocks(9, 1)), DONE);
     assert_eq!(read(&mut host, 1, 1), blocks(9, 1));
+}
+
+#[test]
+fn a_host_that_comes_again_has_the_queue_pair_that_it_had() {
+    let folder = Folder::new();
+    let trace = folder.file("trace");
+    let target = start(Options { trace: Some(trace.clone()), ..options() });
+    let of = |number: u8| Host::connect(&dial(&target).named(&format!("nqn.{number}")), 1).unwrap();
+    let visit = |host: &mut Host, number: u8| assert_eq!(write(host, number.into(), &blocks(number, 1)), DONE);
+    let mut stays = of(20);
+    assert!(target.has("nqn.20") && !target.has("nqn.2"));
+    for round in 0..8 {
+        for number in [1, 2, 3 + round] {
+            visit(&mut of(number), number);
+        }
+        // (by a second connection it has another pair)
+        visit(&mut of(20), 99);
+        visit(&mut stays, 20);
+    }
+    until("they left", || !target.has("nqn.1") && !target.has("nqn.10"));
+    drop(stays);
+    drop(target);
+    // each host's pair, by the block that it wrote
+    let mut pairs: Vec<(String, String)> = std::fs::read_to_string(&trace)
+        .unwrap()
+        .lines()
+        .filter_map(|it| it.strip_prefix("publish ")?.split_once(' '))
+        .map(|(pair, entry)| (pair.to_string(), entry[80..82].to_string()))
+        .collect();
+    pairs.sort();
+    pairs.dedup();
+    // hosts 1 to 10, and 20, whose second connections have one
+    assert_eq!(pairs.len(), 12, "{pairs:?}");
+}
+
+#[test]
+fn a_target_that_is_a_transport_only_does_nothing_and_answers_each_command() {
+    let folder = Folder::new();
+    let history = folder.file("history");
+    let target = start(Options { transport_only: true, history: Some(history.clone()), ..options() });
+    let mut host = host(&target, 1);
+    assert_eq!(write(&mut host, 3, &blocks(7, 40)), DONE);
+    assert_eq!(read(&mut host, 3, 40), blocks(0, 40));
+    assert!(host.queues[0].compare_and_write(3, &blocks(1, 1), &blocks(2, 1)).unwrap());
+    let (none, beyond) = (Command::blocks(opcode::FLUSH, 0, 0), Command::blocks(opcode::READ, 3, 2));
+    assert_eq!(code(&host.queues[0].call(none, &[], 0).unwrap()), DONE);
+    assert_eq!(code(&host.queues[0].call(beyond, &[], BLOCK).unwrap()), (0, 0x0F));
+    assert_eq!(host.queues[0].call(none, &[], 0).unwrap().completion.sqhd(), 8);
+    drop(host);
+    drop(target);
+    assert_eq!(std::fs::read_to_string(history).unwrap().lines().count(), 1);
 }
 
 /// A Write of one block, with this data descriptor.

@@ -98,7 +98,8 @@ errors! {
     /// (This crate asks again with the room that is wanted.)
     TooSmall = VANDREXU_TOO_SMALL, "the room is too small";
     NoBlock = VANDREXU_NO_BLOCK, "the volume has no such block";
-    /// (`None` of [`Controller::ready`](crate::Controller::ready).)
+    /// (`None` of [`Controller::ready`](crate::Controller::ready) and of
+    /// [`RemoteHost::outgoing`](crate::RemoteHost::outgoing).)
     NothingReady = VANDREXU_NOTHING_READY, "no ticket can go on by itself";
     /// (An [`Entry`](crate::Entry) has its data with it.)
     BadEntry = VANDREXU_BAD_ENTRY, "the data aren't just those of the entries";
@@ -112,7 +113,7 @@ errors! {
     NoHost = VANDREXU_NO_HOST, "as many hosts were made as the disk was made for";
     BadNumber = VANDREXU_BAD_NUMBER, "a host has no number 0";
     InCall = VANDREXU_IN_CALL, "the host has a call";
-    NoCall = VANDREXU_NO_CALL, "the host has no call";
+    NoCall = VANDREXU_NO_CALL, "the host has no such call";
     NoSlot = VANDREXU_NO_SLOT, "no such slot";
     NotHeld = VANDREXU_NOT_HELD, "the host hasn't the slot";
     Held = VANDREXU_HELD, "the host has the slot";

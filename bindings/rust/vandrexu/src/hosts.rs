@@ -227,6 +227,35 @@ pub enum Reply {
     },
 }
 
+impl Reply {
+    /// What a host's poll told; of a Read with what was read.
+    pub(crate) fn of(told: &sys::vandrexu_reply, read: impl FnOnce() -> Result<Vec<u8>>) -> Result<Reply> {
+        Ok(match told.kind {
+            sys::VANDREXU_REPLY_PENDING => Reply::Pending,
+            sys::VANDREXU_REPLY_READ => Reply::Read(read()?),
+            sys::VANDREXU_REPLY_WRITTEN => Reply::Written,
+            sys::VANDREXU_REPLY_EQUAL => Reply::Equal,
+            sys::VANDREXU_REPLY_DIFFERS => Reply::Differs,
+            sys::VANDREXU_REPLY_SWAPPED => Reply::Swapped,
+            sys::VANDREXU_REPLY_FAILED => Reply::Failed { sct: told.sct, sc: told.sc },
+            other => panic!("the archive answered the reply {other}, which this version doesn't have"),
+        })
+    }
+}
+
+/// What a host read last: asks for it with the room that is wanted.
+pub(crate) fn last_read(mut ask: impl FnMut(*mut u8, usize, *mut usize) -> u32) -> Result<Vec<u8>> {
+    let (mut data, mut needed) = (Vec::new(), 0);
+    loop {
+        // (an empty Vec has an address that isn't null)
+        match told(ask(data.as_mut_ptr(), data.len(), &mut needed)) {
+            Ok(()) => return Ok(data),
+            Err(Error::TooSmall) => resize(&mut data, needed)?,
+            Err(other) => return Err(other),
+        }
+    }
+}
+
 /// A host of a [`Disk`], with a driver, and one call at a time. It is freed where it is dropped.
 ///
 /// A call is begun, and then polled until it is over. A host outlives its disk's handle, but is served no more.
@@ -327,31 +356,12 @@ impl Host {
             Ok(()) | Err(Error::CallFailed) => {}
             Err(other) => return Err(other),
         }
-        Ok(match reply.kind {
-            sys::VANDREXU_REPLY_PENDING => Reply::Pending,
-            sys::VANDREXU_REPLY_READ => Reply::Read(self.data()?),
-            sys::VANDREXU_REPLY_WRITTEN => Reply::Written,
-            sys::VANDREXU_REPLY_EQUAL => Reply::Equal,
-            sys::VANDREXU_REPLY_DIFFERS => Reply::Differs,
-            sys::VANDREXU_REPLY_SWAPPED => Reply::Swapped,
-            sys::VANDREXU_REPLY_FAILED => Reply::Failed { sct: reply.sct, sc: reply.sc },
-            other => panic!("the archive answered the reply {other}, which this version doesn't have"),
+        Reply::of(&reply, || {
+            last_read(|out, room, needed| {
+                // SAFETY: as in read; so many bytes are there.
+                unsafe { sys::vandrexu_host_data(self.handle.get(), out, room, needed) }
+            })
         })
-    }
-
-    // What was read last.
-    fn data(&mut self) -> Result<Vec<u8>> {
-        let (mut data, mut needed) = (Vec::new(), 0);
-        loop {
-            // SAFETY: as in read; so many bytes are there, and an empty Vec has an address that isn't null.
-            let status =
-                unsafe { sys::vandrexu_host_data(self.handle.get(), data.as_mut_ptr(), data.len(), &mut needed) };
-            match told(status) {
-                Ok(()) => return Ok(data),
-                Err(Error::TooSmall) => resize(&mut data, needed)?,
-                Err(other) => return Err(other),
-            }
-        }
     }
 }
 

@@ -1,5 +1,5 @@
-//! An NVM Express controller in memory, around the fused Compare and Write, hosts with a driver each, slots that hosts
-//! claim and release, and a checker of histories.
+//! An NVM Express controller in memory, around the fused Compare and Write, hosts with a driver each, also of a controller
+//! that is somewhere else, slots that hosts claim and release, and a checker of histories.
 //!
 //! Whoever tests firmware, or builds locks over Compare and Write, has both in a program of their own. The controller
 //! makes one step at a time, when it is asked; the checker says of each line of a log whether the controller that wrote
@@ -28,6 +28,8 @@
 //! goes::<vandrexu::Disk>();
 //! goes::<vandrexu::Host>();
 //! goes::<vandrexu::SlotHost>();
+//! goes::<vandrexu::RemoteHost>();
+//! goes::<vandrexu::RemoteSlotHost>();
 //! goes::<vandrexu::SlotChecker>();
 //! goes::<vandrexu::Tracer>();
 //! ```
@@ -56,6 +58,16 @@
 //! fn is_shared<T: Sync>() {}
 //! is_shared::<vandrexu::SlotHost>();
 //! ```
+//!
+//! ```compile_fail,E0277
+//! fn is_shared<T: Sync>() {}
+//! is_shared::<vandrexu::RemoteHost>();
+//! ```
+//!
+//! ```compile_fail,E0277
+//! fn is_shared<T: Sync>() {}
+//! is_shared::<vandrexu::RemoteSlotHost>();
+//! ```
 mod answers;
 mod checker;
 mod config;
@@ -64,6 +76,8 @@ mod entry;
 mod error;
 mod hosts;
 mod iterators;
+mod remote;
+mod remote_slots;
 mod room;
 mod slot_checker;
 mod slots;
@@ -78,6 +92,8 @@ pub use entry::Entry;
 pub use error::{Error, Result};
 pub use hosts::{Disk, Host, Reply};
 pub use iterators::{Completions, HistoryLines, Steps};
+pub use remote::{CallNumber, Outgoing, RemoteHost};
+pub use remote_slots::RemoteSlotHost;
 pub use slot_checker::{SlotChecker, SlotFault};
 pub use slots::{Name, SlotHost, SlotReply};
 pub use texts::{Lines, TextError, certify_text, check_text, observe_text, refute_text, run_text};

@@ -95,6 +95,23 @@ pub enum SlotReply {
     },
 }
 
+impl SlotReply {
+    /// What a slot host's poll told.
+    pub(crate) fn of(told: &sys::vandrexu_slot_reply) -> SlotReply {
+        match told.kind {
+            sys::VANDREXU_SLOT_PENDING => SlotReply::Pending,
+            sys::VANDREXU_SLOT_HELD => SlotReply::Held(told.slot),
+            sys::VANDREXU_SLOT_TAKEN => SlotReply::Taken,
+            sys::VANDREXU_SLOT_RELEASED => SlotReply::Released,
+            sys::VANDREXU_SLOT_FREE => SlotReply::Free,
+            sys::VANDREXU_SLOT_OF_NAME => SlotReply::Of(Name { host: told.host, serial: told.serial }),
+            sys::VANDREXU_SLOT_FOREIGN => SlotReply::Foreign,
+            sys::VANDREXU_SLOT_FAILED => SlotReply::Failed { sct: told.sct, sc: told.sc },
+            other => panic!("the archive answered the reply {other}, which this version doesn't have"),
+        }
+    }
+}
+
 /// A host of a [`Disk`] that claims slots and releases them, with a driver, and one call at a time. It is freed where it
 /// is dropped.
 ///
@@ -227,20 +244,9 @@ impl SlotHost {
         let mut reply = sys::vandrexu_slot_reply::default();
         // SAFETY: as in claim.
         match told(unsafe { sys::vandrexu_slot_poll(self.handle.get(), &mut reply) }) {
-            Ok(()) | Err(Error::CallFailed) => {}
-            Err(other) => return Err(other),
+            Ok(()) | Err(Error::CallFailed) => Ok(SlotReply::of(&reply)),
+            Err(other) => Err(other),
         }
-        Ok(match reply.kind {
-            sys::VANDREXU_SLOT_PENDING => SlotReply::Pending,
-            sys::VANDREXU_SLOT_HELD => SlotReply::Held(reply.slot),
-            sys::VANDREXU_SLOT_TAKEN => SlotReply::Taken,
-            sys::VANDREXU_SLOT_RELEASED => SlotReply::Released,
-            sys::VANDREXU_SLOT_FREE => SlotReply::Free,
-            sys::VANDREXU_SLOT_OF_NAME => SlotReply::Of(Name { host: reply.host, serial: reply.serial }),
-            sys::VANDREXU_SLOT_FOREIGN => SlotReply::Foreign,
-            sys::VANDREXU_SLOT_FAILED => SlotReply::Failed { sct: reply.sct, sc: reply.sc },
-            other => panic!("the archive answered the reply {other}, which this version doesn't have"),
-        })
     }
 }
 

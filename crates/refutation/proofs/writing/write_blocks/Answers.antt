@@ -1,9 +1,10 @@
 use Rattle.std.proofs.Common.{subst, sym}
 use Rattle.std.specs.Io.KnownBytes.{Appends}
 use Rattle.std.proofs.KnownBytes.{Appends-nil, Appends-trans}
+use Rattle.line_text.proofs.Feeds.{feeds_none}
 use Rattle.line_text.proofs.Known.{front_at, on_err}
 use Rattle.refutation.specs.Texts.{block_line}
-use Rattle.refutation.proofs.Feeds.{feeds_at, feeds_more, feeds_none}
+use Rattle.refutation.proofs.Feeds.{feeds_at, feeds_more}
 use Rattle.refutation.proofs.writing.write_blocks.Goals as goal
 
 pub loop-block-init : goal.loop-block-init

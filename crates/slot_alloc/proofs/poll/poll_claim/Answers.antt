@@ -6,7 +6,7 @@ use Rattle.slot_alloc.proofs.Counting.{behind_asked, counts_polled}
 use Rattle.slot_alloc.proofs.Polling.{Polls, by_stage, claiming_polled, differs_ended, ended_polled, failed_polled}
 use Rattle.slot_alloc.proofs.Polling.{goes_on_on, goes_on_polled, held_polled, lost_polled}
 use Rattle.slot_alloc.proofs.Polling.{still_polled, waiting_polled, won_polled}
-use Rattle.slot_alloc.specs.Progresses.{IsLost, IsLostOn}
+use Rattle.slot_alloc.specs.Progresses.{IsBesideClaim, IsLost, IsLostOn}
 use Rattle.slot_alloc.specs.declared.claiming.ClaimStage.{ClaimStage}
 use Rattle.slot_alloc.proofs.Drawn.{drawn_on}
 use Rattle.slot_alloc.proofs.poll.poll_claim.Goals as goal
@@ -276,3 +276,8 @@ returns-else-is_swapped-clause-claims g c = λ i past.
           (record { same = x.same; later = x.later; one = x.one }) i,
       y.1,
     )
+
+pub returns-else-is_swapped-clause-others : goal.returns-else-is_swapped-clause-others
+returns-else-is_swapped-clause-others g c = λ other of beside. c.next.ensures.others other
+    (c.poll.ensures.others other of (subst (λ (s : ClaimStage _). IsBesideClaim s other)
+    (sym c.replace.ensures.value ∙ c.in-Asked.is) beside))

@@ -3,6 +3,7 @@ use Rattle.driver_calls.specs.Log.{is_tidy, state_of}
 use Rattle.driver_calls.specs.Views.{since}
 use Rattle.driver_calls.specs.declared.event.PortEvent.{PortEvent}
 use Rattle.driver_cas.specs.Cids.{held}
+use Rattle.driver_cas.specs.Dropped.{drop_count}
 use Rattle.driver_cas.specs.Tables.{use_fits}
 use Rattle.driver_cas.proofs.Following.{sole_later}
 use Rattle.driver_cas.proofs.Listening.{idle_calls}
@@ -22,6 +23,7 @@ invariant_of-self g c =
       own = λ q k. g.met.P.Port.keeps_own d.port c.attend.new.port q later ∙ d.own q k;
       matches = subst (λ (l : List PortEvent). (q cid : ℕ) →
           use_fits (held d.cids q cid) (state_of (since (g.P.Port.log d.began.value) l) q cid) ≡ true) same d.matches;
+      drops = d.drops ∙ ap (λ (l : List PortEvent). drop_count (since (g.P.Port.log d.began.value) l)) same;
       named = d.named;
       within = d.within;
     }

@@ -61,3 +61,8 @@ pub returns-in-Some-clause-asks : goal.returns-in-Some-clause-asks
 returns-in-Some-clause-asks g c =
     asks_over g.P.Port c.args.self.now c.reap.new.self c.take.new.self c.args.call _ _ c.in_default.ensures.asks
     c.take.ensures.port (later_ended _ _ c.ended.ensures)
+
+pub returns-in-None-clause-asks : goal.returns-in-None-clause-asks
+returns-in-None-clause-asks g c =
+    asks_over g.P.Port c.args.self.now c.reap.new.self c.take.new.self c.args.call _ _ c.in_default.ensures.asks
+    c.take.ensures.port refl

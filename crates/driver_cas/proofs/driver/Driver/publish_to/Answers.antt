@@ -1,6 +1,6 @@
-use Rattle.std.proofs.Common.{◌∙◌, List, ℕ, length, refl, subst}
+use Rattle.std.proofs.Common.{◌∙◌, List, ℕ, length, refl, subst, sym}
 use Rattle.std.specs.List.{Contains}
-use Rattle.driver_cas.proofs.Sending.{send_keeps}
+use Rattle.driver_cas.proofs.Sending.{send_drops, send_keeps}
 use Rattle.driver_cas.proofs.Following.{sole_later}
 use Rattle.driver_cas.proofs.driver.Driver.publish_to.Goals as goal
 
@@ -22,6 +22,10 @@ invariant_of-self g c =
       own = λ n h. g.met.P.Port.keeps_own d.port c.send.new.port n c.send.ensures.later
           ∙ d.own n (subst (λ (qs : List ℕ). Contains qs n) c.send.ensures.queues h);
       matches = k.2;
+      drops = d.drops
+          ∙ sym (send_drops (g.P.Port.log d.began.value) (g.P.Port.log d.port) (g.P.Port.log c.send.new.port) d.cids
+          c.send.new.cids q c.args.two.first c.args.two.second r.op c.batch_of-batch.result d.grows
+          c.send.ensures.log);
       named = d.named;
       within = d.within;
     }

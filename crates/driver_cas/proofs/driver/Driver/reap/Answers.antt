@@ -1,5 +1,6 @@
 use Rattle.std.proofs.Common.{◌∙◌, List, ℕ, length, refl, subst, sym}
 use Rattle.std.specs.List.{Contains}
+use Rattle.driver_cas.proofs.Dropping.{counts_keep}
 use Rattle.driver_cas.proofs.Tables.{reaps_keep}
 use Rattle.driver_cas.proofs.Drivers.{asked_once, one_more, reaped_calls}
 use Rattle.driver_cas.proofs.Following.{sole_later}
@@ -20,6 +21,8 @@ invariant_of-self g c =
       own = λ q k. g.met.P.Port.keeps_own d.port c.reap_one.new.port q c.reap_one.ensures.later
           ∙ d.own q (subst (λ (qs : List ℕ). Contains qs q) c.reap_one.ensures.queues k);
       matches = r.2;
+      drops = counts_keep (g.P.Port.log d.began.value) (g.P.Port.log d.port) (g.P.Port.log c.reap_one.new.port) d.cids
+          d.dropped c.reap_one.new.dropped c.reap_one.ensures.dropped d.grows d.matches d.drops;
       named = d.named;
       within = d.within;
     }

@@ -16,6 +16,7 @@ invariant_of-self g c =
       own = λ q h. d.own q (subst (λ (qs : List ℕ). Contains qs q) c.take_answer.ensures.queues h);
       matches = take_matches d.cids c.take_answer.new.cids (made d) k.op k.queue k.first k.second c.take_answer.result
           d.matches c.take_answer.ensures.value c.take_answer.ensures.none c.take_answer.ensures.some;
+      drops = d.drops;
       named = d.named;
       within = d.within;
     }

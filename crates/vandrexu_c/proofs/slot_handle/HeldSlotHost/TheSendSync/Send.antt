@@ -4,7 +4,7 @@ use denote.Struct.Owning.{fields, shape, to}
 use denote.Struct.Struct.{exits_of}
 use Rattle.c_handles.proofs.Owned.{owned_keyless, pointer, quiet}
 use Rattle.vandrexu_c.proofs.SlotSent.{slot_host_send}
-use Rattle.vandrexu_c.specs.contracts.slot_host.SlotHost as value
+use Rattle.vandrexu_c.specs.contracts.disk_slots.DiskSlotHost as value
 use Rattle.vandrexu_c.specs.contracts.slot_handle.HeldSlotHost.{the_row, the_type}
 
 pub send : IsSend the_row

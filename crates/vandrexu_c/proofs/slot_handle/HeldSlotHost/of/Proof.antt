@@ -9,7 +9,7 @@ use Rattle.std.specs.Prelude.{◌≡◌}
 use Rattle.c_handles.proofs.Moving.{moved}
 use Rattle.c_handles.specs.Owned.{owned}
 use Rattle.c_handles.specs.contracts.owner.Owner as owner
-use Rattle.vandrexu_c.specs.contracts.slot_host.SlotHost as value
+use Rattle.vandrexu_c.specs.contracts.disk_slots.DiskSlotHost as value
 use Rattle.vandrexu_c.specs.contracts.slot_handle.HeldSlotHost as held
 use Rattle.vandrexu_c.specs.contracts.slot_handle.HeldSlotHost.of as f
 use Rattle.vandrexu_c.proofs.slot_handle.HeldSlotHost.of.Statement.{statement}

@@ -1,6 +1,0 @@
--- The block that is read begins no later than where the reading stands.
-use Rattle.std.proofs.Common.{◌≤◌}
-use Rattle.casdisk_program.proofs.spelling.wrong_blocks.Given as goal
-
-abbrev pub invariant-loop-end : goal.invariant-loop-end
-invariant-loop-end l = l.begin ≤ l.end

@@ -1,0 +1,9 @@
+mod Places
+mod Fresh
+mod HoldsStaying
+mod HostKeeping
+mod HostBars
+mod HostBeginning
+mod HostReleasing
+mod HostPolled
+mod HostUntouched

@@ -1,0 +1,18 @@
+use Rattle.slot_host.specs.SlotHosts.{slot_state}
+use Rattle.slot_host.proofs.HostBars.{claim_open}
+use Rattle.slot_host.proofs.HostBeginning.{claim_kept}
+use Rattle.slot_host.proofs.HostKeeping.{idle}
+use Rattle.slot_host.proofs.slot_host.SlotHost.begin_claim.Goals as goal
+
+pub keep_claim-requires : goal.keep_claim-requires
+keep_claim-requires g c = (claim_open (slot_state c.args.self.now) c.args.slot c.requires.open).0
+
+pub returns-clause-kept : goal.returns-clause-kept
+returns-clause-kept g c =
+    let s = c.args.self.now in
+    let x = c.claim-begun.ensures in
+    claim_kept s.driver c.claim-begun.new.driver s.number s.slots s.holds.items s.took_over.value c.keep_claim.result
+    c.claim-begun.result c.keep_claim.new.under_way
+    (idle s.driver s.number s.slots s.holds.items s.under_way s.took_over.value c.requires.kept
+    (claim_open (slot_state s) c.args.slot c.requires.open).0)
+    x.goes_on x.slot_rules x.of x.drawn c.keep_claim.ensures

@@ -1,0 +1,4 @@
+pub mod SlotStates
+pub mod Begins
+pub mod HostPolls
+pub mod SlotHosts
