@@ -181,9 +181,14 @@ def fields_of(command, line):
     return line, None, None
 
 
+def rule_alone(words):
+    """What an explanation says of a rule, without the step before that has to do with it."""
+    return re.sub(r": (unit \d+ (ended|of)|byte \d+ is \w+ since|it holds what|that of block|block \d+ differs, at) .*", "", words)
+
+
 def numbers_in(line):
-    """The numbers that an explanation says behind its place, of a status its type and its code, without the cause of a rule."""
-    words = re.sub(r" \((?!block )[^)]*\)", "", line.partition(": ")[2].split(": unit ")[0])
+    """The numbers that an explanation says of a rule, of a status its type and its code."""
+    words = re.sub(r" \((?!block )[^)]*\)", "", line.partition(": ")[2])
     parts = re.findall(r"(\d+)(?:/([0-9A-F]{2}))?", words)
     return [int(it, base) for part in parts for it, base in zip(part, (10, 16)) if it]
 
@@ -197,8 +202,8 @@ def says(program, words, text, wanted):
         it = json.loads(told)
         same(["answer", "place", "line", "rule", "numbers", "words"], list(it))
         same((*fields_of(words[0], line), line), (it["answer"], it["place"], it["line"], it["words"]))
-        if not re.search(": (?:byte|DNR|More|CRD) ", line):
-            same(numbers_in(line) if words[0] == "explain" else [], it["numbers"])
+        if not re.search(": (?:byte|DNR|More|CRD) ", rule_alone(line)):
+            same(numbers_in(rule_alone(line)) if words[0] == "explain" else [], it["numbers"])
 
 
 def with_line(end):
