@@ -1,4 +1,4 @@
-mod Places
+pub mod Places
 mod Fresh
 mod HoldsStaying
 mod HostKeeping

@@ -39,8 +39,8 @@ fn is_had(hold: &Hold) -> bool
     }
 }
 
-// Whether the host has this slot, if it is one.
-fn is_had_at(holds: &[Hold], slot: u32) -> bool
+/// Whether the host has this slot, if it is one.
+pub(crate) fn is_had_at(holds: &[Hold], slot: u32) -> bool
     ensures { result ≡ is_held (slice_get holds.now slot) }
 {
     if slot as usize >= holds.len() {

@@ -1,11 +1,13 @@
 //! Making a slot host, and what it tells of itself.
 
-ghost use Rattle.std.specs.Prelude.{◌≡◌, ◌≤◌, IfErr, IfOk};
+ghost use Rattle.std.specs.Prelude.{◌≡◌, ◌≤◌, IfErr, IfOk, slice_get};
 ghost use Rattle.driver_cas.specs.Drivers.{area_of, made};
 ghost use Rattle.driver_cas.specs.Dropped.{drop_count};
 ghost use Rattle.driver_cas.specs.Starts.{IsUntouched};
+ghost use Rattle.slot_host.specs.Begins.{is_held};
 ghost use Rattle.slot_host.specs.SlotHosts.{AreNothing, DidNothing, IsHostOver, IsKept, slot_state};
 
+use crate::beginning::is_had_at;
 use crate::hold::Hold;
 use crate::slot_host::SlotHost;
 use crate::under_way::UnderWay;
@@ -68,6 +70,20 @@ impl<P: Port> SlotHost<P> {
         ensures { result.now ≡ (slot_state self.now).driver.port }
     {
         self.driver.port()
+    }
+
+    /// The driver, to be looked at.
+    pub fn driver(&self) -> &Driver<P>
+        ensures { result.now ≡ (slot_state self.now).driver }
+    {
+        &self.driver
+    }
+
+    /// Whether the host has this slot.
+    pub fn has(&self, slot: u32) -> bool
+        ensures { result ≡ is_held (slice_get (slot_state self.now).holds slot) }
+    {
+        is_had_at(self.holds.as_slice(), slot)
     }
 
     /// How many of the completions that its port reaped no command waited for.

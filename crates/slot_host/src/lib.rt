@@ -7,6 +7,7 @@ mod endings;
 mod hold;
 mod host_making;
 mod host_polling;
+mod meeting;
 mod not_begun;
 mod slot_host;
 mod slot_told;

@@ -4,6 +4,8 @@
 #[cfg(test)]
 mod crowd;
 #[cfg(test)]
+mod disks;
+#[cfg(test)]
 mod fakes;
 #[cfg(test)]
 mod host;

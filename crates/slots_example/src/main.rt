@@ -1,4 +1,5 @@
-//! The program of docs/SLOTS.md: two hosts and one slot; then a host that dies, and two that take its slot over.
+//! Two hosts and one slot, by the calls of `slot_alloc`, for programs that keep locks by them; then a host that dies,
+//! and two that take its slot over.
 #![tactic(auto)]
 
 ghost use Rattle.std.specs.Prelude.{IfSome};

@@ -1,5 +1,5 @@
-//! Tests by calls of histories beside traces and beside slots, and of searches for a history. They show what is
-//! answered where there is memory enough, and with queues that are full.
+//! Tests by calls of histories beside traces and beside slots, of searches for a history, and of what refutes a trace.
+//! They show what is answered where there is memory enough, with queues that are full, and at limits.
 #![tactic(auto)]
 
 #[cfg(test)]
@@ -7,7 +7,25 @@ mod areas;
 #[cfg(test)]
 mod delayed;
 #[cfg(test)]
+mod effects;
+#[cfg(test)]
+mod finding;
+#[cfg(test)]
+mod limits;
+#[cfg(test)]
+mod lines;
+#[cfg(test)]
 mod options;
+#[cfg(test)]
+mod pieces;
+#[cfg(test)]
+mod reading;
+#[cfg(test)]
+mod refutation_texts;
+#[cfg(test)]
+mod refuting;
+#[cfg(test)]
+mod rows;
 #[cfg(test)]
 mod searches;
 #[cfg(test)]

@@ -1,6 +1,6 @@
 //! What is answered where the head of a trace has options.
 
-use crate::traces::trace_of;
+use crate::reading::read_trace;
 use history::Config;
 use std::alloc::Global;
 use std::test::Fail;
@@ -59,7 +59,7 @@ fn is_explained(alloc: Global, head: &[&[u8]], lines: &[&[u8]]) -> Result<bool, 
     if options.contents_unknown {
         history = Config::new(8, 1, 1, 0, 0, 3, 4, 4, 8)?;
     }
-    let trace = trace_of(alloc, lines)?;
+    let trace = read_trace(alloc, lines)?;
     match observe(alloc, &options, &config, &history, &trace, 1000)? {
         Observed::Explained(_) => Ok(true),
         Observed::NotFound(_) => Ok(false),
@@ -94,7 +94,7 @@ fn either_of_two_with_one_identifier_may_have_been_refused(rt: HostRuntime) -> R
     let alloc = rt.alloc();
     let options = options_of(&[ANY])?;
     let config = Config::new(3, 2, 2, 2, 2, 1, 2, 4, 3)?;
-    let trace = trace_of(alloc, &TWICE)?;
+    let trace = read_trace(alloc, &TWICE)?;
     let said = observe(alloc, &options, &config, &config, &trace, 1000)?;
     assert!(rt; matches!(said, Observed::Explained(_)));
     Ok(())

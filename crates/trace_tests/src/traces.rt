@@ -1,9 +1,10 @@
 //! What is answered where a history is looked for.
 
+use crate::reading::read_trace;
 use history::Config;
 use std::alloc::Global;
 use std::test::Fail;
-use trace::{Seen, TraceOptions, parse_seen};
+use trace::TraceOptions;
 use trace_search::{Observed, Obstacle, observe};
 use trace_walk::Unfit;
 
@@ -27,18 +28,6 @@ const SHARED: [&[u8]; 5] = [
     b"reap 1 00000000000000000200020001000000 00",
 ];
 
-// What these lines of a trace say.
-pub(crate) fn trace_of(alloc: Global, lines: &[&[u8]]) -> Result<Vec<Seen>, Fail> {
-    let mut trace = Vec::new(alloc);
-    for line in lines {
-        let Ok(seen) = parse_seen(alloc, line) else {
-            return Err(Fail::from("not read"));
-        };
-        trace.push(seen)?;
-    }
-    Ok(trace)
-}
-
 // What is said: the fewest first lines for which none was found, and why.
 #[derive(Clone, Copy, Debug, PartialEq, Eq)]
 pub(crate) enum Said {
@@ -53,7 +42,7 @@ pub(crate) fn asked(
     lines: &[&[u8]],
     steps: u64,
 ) -> Result<Said, Fail> {
-    let trace = trace_of(alloc, lines)?;
+    let trace = read_trace(alloc, lines)?;
     match observe(alloc, &TraceOptions::none(), config, config, &trace, steps)? {
         Observed::Explained(_) => Ok(Said::Explained),
         Observed::NotFound(reason) => Ok(Said::NotFound(reason.lines, reason.why)),

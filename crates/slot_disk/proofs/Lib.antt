@@ -1,0 +1,9 @@
+mod OwnQueues
+mod Servers
+mod Passes
+mod Looks
+mod Calls
+mod Polls
+mod Rounds
+mod Moment
+mod Disks

@@ -1,0 +1,16 @@
+//! A disk in memory with slots and a host of each completion queue, for programs on one thread that keep locks and say
+//! who holds them. Nothing is asked of its callers: no call lets two hosts have one slot, or a host write there
+//! otherwise.
+#![tactic(auto)]
+
+mod host_calls;
+mod meeting;
+mod opening;
+mod serving;
+mod setting;
+mod slot_disk;
+mod unasked;
+
+pub use crate::slot_disk::SlotDisk;
+pub use crate::unasked::{Unasked, Unmade};
+pub use slot_host::{NotBegun, SlotTold};
