@@ -1,7 +1,7 @@
 //! Sixteen hosts race for four slots by the program, each on a queue pair of its own, and half of them are killed on the way.
 //! What all did is judged by the discipline of slots, as `casdisk check --slots` does. VANDREXU_SECONDS says how long they race.
 mod common;
-use common::{Random, Scene, is_legal, kill};
+use common::{Random, Scene, is_busy, is_legal, kill};
 use std::collections::HashSet;
 use std::os::unix::process::CommandExt;
 use std::path::{Path, PathBuf};
@@ -22,8 +22,19 @@ struct Race {
     scene: Scene,
     end: Instant,
     dead: Mutex<HashSet<u32>>,
+    /// How many weren't killed yet of those that will be.
+    doomed: AtomicU32,
     /// How many slots were taken over.
     buried: AtomicU32,
+}
+
+/// One that will be killed, until it is, or its test failed.
+struct Counted<'a>(&'a AtomicU32);
+
+impl Drop for Counted<'_> {
+    fn drop(&mut self) {
+        self.0.fetch_sub(1, Ordering::SeqCst);
+    }
 }
 
 impl Race {
@@ -34,6 +45,7 @@ impl Race {
         let is_in_vain = match status.code() {
             Some(7) => false,
             Some(1) => true,
+            Some(3) if is_busy(&told) => true,
             other => panic!("host {me}: {other:?}: {told}"),
         };
         let holder = told.split_once("now: host ").and_then(|it| it.1.split(',').next()?.parse().ok());
@@ -51,14 +63,16 @@ impl Race {
         let (slot, me, from) = (slot.to_string(), me.to_string(), from.to_string());
         let words = ["take-over", "--slot", &slot, "--host", &me, "--from", &from, "--fenced", "--", "sh", "-c", &tidy];
         let (status, _, told) = self.scene.ran(&words);
-        assert!(status == 0 || status == 1 && told.contains("doesn't hold"), "{status}: {told}");
+        let is_left = status == 1 && told.contains("doesn't hold") || status == 3 && is_busy(&told);
+        assert!(status == 0 || is_left, "{status}: {told}");
         self.buried.fetch_add(u32::from(status == 0), Ordering::Relaxed);
     }
 
-    /// How many commands a host runs until then.
+    /// How many commands a host runs until then; of a survivor, until all are killed that will be.
     fn live(&self, random: &mut Random, me: u32, end: Instant) -> u32 {
         let mut ran = 0;
-        while Instant::now() < end {
+        // (a survivor buries whom it finds, so those that wait for a slot of the dead get it, however slow this machine is)
+        while Instant::now() < end || me > DOOMED && self.doomed.load(Ordering::SeqCst) > 0 {
             ran += u32::from(self.work(random.below(4), me));
         }
         ran
@@ -67,9 +81,9 @@ impl Race {
     /// A host whose command doesn't end.
     fn holder(&self, slot: u32, me: u32) -> Child {
         let (held, begun) = (self.scene.folder.join(format!("held-{slot}")), self.begun(me));
-        let script = format!("mkdir {} || exit 77; touch {}; exec sleep 60", held.display(), begun.display());
+        let script = format!("mkdir {} || exit 77; touch {}; exec sleep 600", held.display(), begun.display());
         let (slot, me) = (slot.to_string(), me.to_string());
-        let words = ["--slot", &slot, "--host", &me, "--wait", "60", "--", "sh", "-c", &script];
+        let words = ["--slot", &slot, "--host", &me, "--wait", "600", "--", "sh", "-c", &script];
         let mut program = self.scene.program(&words);
         program.process_group(0).stdout(Stdio::null()).stderr(Stdio::null()).spawn().expect("the program")
     }
@@ -102,6 +116,7 @@ impl Race {
         if me > DOOMED {
             return self.live(&mut random, me, self.end);
         }
+        let _counted = Counted(&self.doomed);
         let ran = self.live(&mut random, me, began + (self.end - began) * me / (DOOMED + 1));
         self.die(&mut random, me);
         ran
@@ -126,7 +141,8 @@ fn hosts_that_race_and_are_killed_keep_the_discipline_of_slots() {
     let scene = Scene::with("judged", |folder, it| Options { trace: Some(folder.join("trace")), ..it });
     let began = Instant::now();
     let end = began + Duration::from_secs(seconds);
-    let mut race = Race { scene, end, dead: Mutex::default(), buried: AtomicU32::new(0) };
+    let mut race =
+        Race { scene, end, dead: Mutex::default(), doomed: AtomicU32::new(DOOMED), buried: AtomicU32::new(0) };
     let ran: u32 = thread::scope(|scope| {
         let race = &race;
         let all: Vec<_> = (1..=HOSTS).map(|me| scope.spawn(move || race.host(me, began))).collect();

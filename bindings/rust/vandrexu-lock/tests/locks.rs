@@ -1,6 +1,6 @@
 //! The program against a target: commands of one slot never run at once, and a slot of a host that was killed is taken over.
 mod common;
-use common::{Random, Scene, is_legal, kill};
+use common::{Random, Scene, is_busy, is_legal, kill};
 use std::collections::HashSet;
 use std::io::{Read, Write};
 use std::net::{Shutdown, TcpListener, TcpStream};
@@ -23,7 +23,7 @@ fn commands_of_one_slot_never_run_at_once() {
                 for round in 0..4 {
                     let (slot, host) = (((host + round) % 3).to_string(), host.to_string());
                     let script = scene.alone((slot.parse::<u32>()).expect("a number"));
-                    let words = ["--slot", &slot, "--host", &host, "--wait", "60", "--", "sh", "-c", &script];
+                    let words = ["--slot", &slot, "--host", &host, "--wait", "600", "--", "sh", "-c", &script];
                     let (status, _, told) = scene.ran(&words);
                     assert_eq!(status, 7, "host {host}, slot {slot}: {told}");
                 }
@@ -57,7 +57,7 @@ impl Holding {
         let host = program.process_group(0).stdout(Stdio::null()).spawn().expect("the program");
         let began = Instant::now();
         while !begun.exists() {
-            assert!(began.elapsed() < Duration::from_secs(20), "the command doesn't begin");
+            assert!(began.elapsed() < Duration::from_secs(120), "the command doesn't begin");
             thread::sleep(Duration::from_millis(20));
         }
         Holding { host, go }
@@ -108,7 +108,7 @@ fn where_no_queue_is_free_one_is_waited_for() {
     let first = Holding::of(&scene, "2");
     let (status, _, told) = scene.ran(&["--slot", "0", "--host", "6", "--", "true"]);
     assert!(status == 3 && told.contains("status 1/81"), "{status}: {told}");
-    let mut waits = scene.program(&["--slot", "0", "--host", "6", "--wait", "20", "--", "true"]).spawn().expect("it");
+    let mut waits = scene.program(&["--slot", "0", "--host", "6", "--wait", "120", "--", "true"]).spawn().expect("it");
     thread::sleep(Duration::from_millis(300));
     assert_eq!(waits.try_wait().expect("it waits"), None);
     assert_eq!(first.end(), Some(7));
@@ -142,14 +142,16 @@ fn bury(scene: &Scene, dead: &Mutex<HashSet<u32>>, numbers: &AtomicU32) {
         let tidy = format!("rmdir {} 2> /dev/null; exit 0", scene.folder.join(format!("held-{slot}")).display());
         let words = ["take-over", "--slot", &slot, "--host", &me, "--from", &from, "--fenced", "--", "sh", "-c", &tidy];
         let (status, _, told) = scene.ran(&words);
-        assert!(status == 0 || status == 1 && told.contains("doesn't hold"), "{status}: {told}");
+        let is_left = status == 1 && told.contains("doesn't hold") || status == 3 && is_busy(&told);
+        assert!(status == 0 || is_left, "{status}: {told}");
     }
 }
 
 /// One machine, whose hosts claim slots and are killed now and then; how often a command ran, and how many were killed.
 fn machine(scene: &Scene, seed: u32, end: Instant, dead: &Mutex<HashSet<u32>>, numbers: &AtomicU32) -> (u32, u32) {
     let (mut random, mut ran, mut killed) = (Random(seed * 77 + 1), 0, 0);
-    while Instant::now() < end {
+    // (each does both once at the least, however slow this machine is)
+    while Instant::now() < end || ran == 0 || killed == 0 {
         let number = numbers.fetch_add(1, Ordering::Relaxed);
         let mut host = scene.host(random.below(4), number, "2");
         if random.below(4) == 0 {
@@ -158,11 +160,14 @@ fn machine(scene: &Scene, seed: u32, end: Instant, dead: &Mutex<HashSet<u32>>, n
             dead.lock().expect("a lock").insert(number);
             killed += 1;
         } else {
-            match host.wait().expect("ended").code() {
+            let Output { status, stderr, .. } = host.wait_with_output().expect("ended");
+            let told = String::from_utf8_lossy(&stderr);
+            match status.code() {
                 Some(7) => ran += 1,
                 // (it waited in vain: a dead host may hold the slot)
                 Some(1) => {}
-                other => panic!("host {number}: {other:?}"),
+                Some(3) if is_busy(&told) => {}
+                other => panic!("host {number}: {other:?}: {told}"),
             }
         }
         bury(scene, dead, numbers);
@@ -182,7 +187,7 @@ fn hosts_race_while_others_are_killed_and_taken_over() {
         all.into_iter().map(|it| it.join().expect("a machine")).collect()
     });
     let began = Instant::now();
-    while scene.ran(&["status"]).1.contains("host") && began.elapsed() < Duration::from_secs(20) {
+    while scene.ran(&["status"]).1.contains("host") && began.elapsed() < Duration::from_secs(120) {
         bury(&scene, &dead, &numbers);
     }
     assert!(!scene.ran(&["status"]).1.contains("host"));

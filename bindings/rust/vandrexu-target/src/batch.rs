@@ -13,8 +13,8 @@ const LIMITED_RETRY: u8 = 0x80;
 /// Force Unit Access, which is so of each write where there is no volatile cache.
 const FORCE_UNIT_ACCESS: u8 = 0x40;
 
-/// How long a command waits that a fault gives the controller later.
-const LATE: Duration = Duration::from_millis(3);
+/// How long a command waits that a fault gives the controller later: long enough for a host to look.
+const LATE: Duration = Duration::from_millis(20);
 
 impl Engine {
     /// Publishes what waits.

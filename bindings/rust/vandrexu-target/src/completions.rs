@@ -2,7 +2,6 @@
 use crate::engine::Engine;
 use crate::faults::{FaultKind, Plan};
 use crate::pairs::Sent;
-use crate::ring::Capsule;
 use vandrexu::{BLOCK, Error, Reaped};
 use vandrexu_wire::{Command, Completion, Status, u64_at};
 
@@ -83,7 +82,8 @@ impl Engine {
             }
             Plan::Half(_) => Ok(vec![reply]),
             Plan::Then(write) if is_done => {
-                self.then(reply.at, *write, Plan::Plain)?;
+                // (so that another host's pair comes between the two, however its machine takes turns)
+                self.delay(reply.at, *write, Plan::Plain);
                 Ok(vec![reply])
             }
             Plan::Then(write) => {
@@ -92,8 +92,9 @@ impl Engine {
                 Ok(vec![reply, other])
             }
             Plan::Despite(write) => {
+                // (of a host that is gone, too)
                 if !is_done {
-                    self.then(reply.at, *write, Plan::Silent)?;
+                    self.give(reply.at, vec![(*write, Plan::Silent)])?;
                 }
                 Ok(vec![reply])
             }
@@ -110,11 +111,6 @@ impl Engine {
                 })
             }
         }
-    }
-
-    /// Gives the controller what follows; of a host that is gone, too.
-    fn then(&mut self, at: usize, capsule: Capsule, plan: Plan) -> Result<(), Error> {
-        self.give(at, vec![(capsule, plan)])
     }
 
     /// Makes a reply wrong.

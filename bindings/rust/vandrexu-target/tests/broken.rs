@@ -20,7 +20,7 @@ struct Raw(TcpStream);
 impl Raw {
     fn open(target: &Target) -> Raw {
         let stream = TcpStream::connect(target.address()).expect("a connection");
-        stream.set_read_timeout(Some(Duration::from_secs(20))).expect("a timeout");
+        stream.set_read_timeout(Some(Duration::from_secs(120))).expect("a timeout");
         stream.set_nodelay(true).expect("no delay");
         Raw(stream)
     }
@@ -208,6 +208,12 @@ fn threads() -> usize {
     std::fs::read_dir("/proc/self/task").expect("threads").count()
 }
 
+/// The resident memory of this process, in KiB.
+fn resident() -> u64 {
+    let now = std::fs::read_to_string("/proc/self/statm").expect("its memory");
+    now.split(' ').nth(1).expect("a number").parse::<u64>().expect("pages") * 4
+}
+
 /// Sends so many PDUs by chance; how many were sent.
 fn attack(dial: &Dial, seed: u64, count: u64) -> u64 {
     let mut random = Random(seed | 1);
@@ -250,6 +256,7 @@ fn broken_pdus_disturb_nobody_else() {
     let target = start(Options { connections: 1000, ..options() });
     let dial = dial(&target);
     let (is_over, threads, began) = (AtomicBool::new(false), threads(), Instant::now());
+    let before = resident();
     std::thread::scope(|scope| {
         let (dial, is_over) = (&dial, &is_over);
         let peaceful = scope.spawn(move || live_in_peace(dial, is_over));
@@ -264,6 +271,9 @@ fn broken_pdus_disturb_nobody_else() {
     until("all connections end", || target.connections() == 0);
     // (other tests have threads, too)
     until("all threads end", || self::threads() <= threads + 8);
+    // (of a million, 32 bytes of each)
+    let after = resident();
+    assert!(after < before + (32 << 10), "{before} KiB before, {after} after");
     let mut host = Host::connect(&dial, 16).expect("a host");
     assert_eq!(host.queues.len(), 16);
     assert_eq!(write(&mut host, 0, &blocks(5, 1)), DONE);

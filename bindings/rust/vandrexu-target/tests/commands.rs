@@ -1,9 +1,11 @@
 //! Each I/O command, as a host sends it over a connection.
 mod common;
 use common::{DONE, Folder, blocks, code, dial, host, is_explained, is_legal, options, read, start, until, write};
+use std::path::Path;
 use std::time::Duration;
+use vandrexu::Checker;
 use vandrexu_initiator::{BLOCK, Command, Dial, Host, Status, fabrics, opcode};
-use vandrexu_target::Options;
+use vandrexu_target::{Config, Options};
 
 #[test]
 fn what_is_written_is_read_in_the_capsule_and_by_r2t() {
@@ -172,6 +174,65 @@ fn heads_on_the_wire_count_the_entries_of_the_hosts_own_queue() {
     }
 }
 
+/// The completions of a target's own trace: head, phase tag and CID.
+fn reaped(trace: &Path) -> Vec<(u16, u8, u16)> {
+    let text = std::fs::read_to_string(trace).unwrap();
+    let cqes = text.lines().filter_map(|it| it.strip_prefix("reap ")?.split(' ').nth(1));
+    let byte = |hex: &str, at: usize| u8::from_str_radix(&hex[2 * at..2 * at + 2], 16).unwrap();
+    let two = |hex: &str, at| u16::from_le_bytes([byte(hex, at), byte(hex, at + 1)]);
+    cqes.map(|it| (two(it, 8), byte(it, 14) & 1, two(it, 12))).collect()
+}
+
+#[test]
+fn numbers_begin_anew_for_each_host_where_the_controllers_go_on() {
+    let (folder, slots) = (Folder::new(), 4);
+    let trace = folder.file("trace");
+    let config = Config::of_line("config 64 7 7 0 0 1 16 8 8").unwrap();
+    let target = start(Options { config, trace: Some(trace.clone()), ..options() });
+    let mut seen = vec![];
+    for number in 0..5 {
+        let dial = Dial { slots, ..dial(&target) }.named(&format!("nqn.{number}"));
+        let mut host = Host::connect(&dial, 1).unwrap();
+        for _ in 0..7 {
+            let it = host.queues[0].call(Command::blocks(opcode::FLUSH, 0, 0), &[], 0).unwrap().completion;
+            seen.push((it.sqhd(), it.0[14] & 1, it.cid()));
+        }
+        drop(host);
+        until("it left", || target.connections() == 0);
+    }
+    drop(target);
+    // on the wire: the entry of Connect, then one each time; in the controller one queue for all, with its own size and laps
+    let wire = (0..35).map(|at| (((at % 7 + 2) % slots), 0)).collect::<Vec<_>>();
+    let own = (0..35).map(|at| ((at + 1) % 16, 1 - (at / 8 % 2) as u8)).collect::<Vec<_>>();
+    let heads = |it: &[(u16, u8, u16)]| it.iter().map(|it| (it.0, it.1)).collect::<Vec<_>>();
+    let told = reaped(&trace);
+    assert_eq!((heads(&seen), heads(&told)), (wire, own));
+    assert!(seen.iter().map(|it| it.2).eq(told.iter().map(|it| it.2)), "each is of the same command");
+}
+
+#[test]
+fn each_step_is_in_the_history_before_a_host_hears_of_it() {
+    let folder = Folder::new();
+    let path = folder.file("history");
+    let options = Options { history: Some(path.clone()), seed: Some(3), ..options() };
+    let mut checker = Checker::new(&options.config).unwrap();
+    let target = start(options);
+    let mut host = host(&target, 1);
+    let (mut read, mut reaps) = (0, 0);
+    for round in 1..=50 {
+        assert!(host.queues[0].compare_and_write(9, &blocks(round - 1, 1), &blocks(round, 1)).unwrap());
+        // what was appended since, as `casdisk check --follow` reads it while the target runs
+        let text = std::fs::read_to_string(&path).unwrap();
+        let new = &text[read..text.rfind('\n').map_or(0, |it| it + 1)];
+        for line in new.lines().skip(usize::from(read == 0)) {
+            checker.take_line(line).unwrap();
+            reaps += usize::from(line.starts_with("reap "));
+        }
+        read += new.len();
+        assert_eq!(reaps, 2 * usize::from(round), "both completions are written down");
+    }
+}
+
 /// Eight blocks that hold this number, and no others do.
 fn unlike(number: u64) -> Vec<u8> {
     let mut out = blocks(0, 8);
@@ -242,18 +303,22 @@ fn a_host_that_comes_again_has_the_queue_pair_that_it_had() {
     let trace = folder.file("trace");
     let target = start(Options { trace: Some(trace.clone()), ..options() });
     let of = |number: u8| Host::connect(&dial(&target).named(&format!("nqn.{number}")), 1).unwrap();
-    let visit = |host: &mut Host, number: u8| assert_eq!(write(host, number.into(), &blocks(number, 1)), DONE);
+    let write_to = |host: &mut Host, lba: u8| assert_eq!(write(host, lba.into(), &blocks(lba, 1)), DONE);
     let mut stays = of(20);
     assert!(target.has("nqn.20") && !target.has("nqn.2"));
+    let visit = |number, lba| {
+        write_to(&mut of(number), lba);
+        until("it left", || target.connections() == 2);
+    };
     for round in 0..8 {
         for number in [1, 2, 3 + round] {
-            visit(&mut of(number), number);
+            visit(number, number);
         }
         // (by a second connection it has another pair)
-        visit(&mut of(20), 99);
-        visit(&mut stays, 20);
+        visit(20, 99);
+        write_to(&mut stays, 20);
     }
-    until("they left", || !target.has("nqn.1") && !target.has("nqn.10"));
+    assert!(!target.has("nqn.1") && !target.has("nqn.10"));
     drop(stays);
     drop(target);
     // each host's pair, by the block that it wrote

@@ -8,6 +8,9 @@ use vandrexu_target::{Fault, FaultKind, Options};
 /// How many blocks a command has.
 const MANY: usize = 4;
 
+/// How often a fault is looked for: what shows for a moment alone needs hosts that look then.
+const TRIES: usize = 8;
+
 /// A block of this number, unlike all others.
 fn unlike(number: u64) -> Vec<u8> {
     let mut out = blocks(0xE0, MANY);
@@ -89,15 +92,15 @@ fn each_fault_is_found() {
     std::thread::scope(|scope| {
         for kind in FaultKind::ALL {
             scope.spawn(move || {
-                let seen = see(Options { fault: Some(Fault { kind: *kind, every: 5 }), ..options() });
-                let is_found = match kind {
+                let see = || see(Options { fault: Some(Fault { kind: *kind, every: 5 }), ..options() });
+                let is_found = |seen: &Seen| match kind {
                     // (a log can't say that an answer will never come: its host waits in vain)
                     FaultKind::LostCompletion => !seen.is_done,
                     // (a host can't compare the head with that of the controller's own queue)
                     FaultKind::WrongHead => !seen.by_target && seen.by_host,
                     _ => !seen.by_target && !seen.by_host,
                 };
-                assert!(is_found, "{}: {seen:?}", kind.name());
+                assert!((0..TRIES).any(|_| is_found(&see())), "{}", kind.name());
             });
         }
     });

@@ -46,6 +46,7 @@ impl Running {
             .expect("the program");
         let mut line = String::new();
         BufReader::new(child.stderr.take().expect("its words")).read_line(&mut line).expect("a line");
+        assert!(line.contains("nothing authenticates hosts but their names"), "{line}");
         let address = line.split([' ', ',']).find_map(|it| it.parse().ok());
         Running(child, address.unwrap_or_else(|| panic!("no address: {line}")))
     }

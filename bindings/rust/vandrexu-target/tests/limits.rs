@@ -28,77 +28,52 @@ fn connections_are_limited_and_free_again() {
     host(&target, 2);
 }
 
-/// The resident memory of this process, in bytes.
-fn resident() -> u64 {
-    let now = std::fs::read_to_string("/proc/self/statm").unwrap();
-    now.split(' ').nth(1).unwrap().parse::<u64>().unwrap() * 4096
-}
-
-#[test]
-fn a_target_keeps_no_step_that_it_wrote_down() {
-    let folder = Folder::new();
-    for history in [None, Some(folder.file("history"))] {
-        let target = start(Options { history, memory: Some(resident() + (64 << 20)), ..options() });
-        let mut host = host(&target, 1);
-        for round in 0..1000u32 {
-            let data = blocks(round as u8, 256);
-            let answer = host.queues[0].call(Command::blocks(opcode::WRITE, 0, 256), &data, 0).unwrap();
-            assert_eq!(code(&answer), DONE, "Write {round} of 128 KiB");
-        }
-    }
-}
-
-#[test]
-fn over_its_memory_limit_a_target_answers_each_command() {
-    let target = start(Options { memory: Some(1 << 20), ..options() });
-    let mut host = host(&target, 1);
-    for round in 0..50 {
-        assert_eq!(write(&mut host, 0, &blocks(round, 1)), (0, 6));
-    }
-    assert_eq!(code(&host.identify(1, 0).unwrap()), DONE);
-}
-
-/// How long the target lets a connection be.
-fn until_closed(mut stream: TcpStream) -> Duration {
-    let began = Instant::now();
-    stream.set_read_timeout(Some(Duration::from_secs(10))).unwrap();
-    assert_eq!(stream.read_to_end(&mut vec![]).ok().map(drop), Some(()), "it isn't closed");
-    began.elapsed()
+/// How long a host that sends nothing is let be, if that is less than this.
+fn let_be(patience: u64, most: Duration) -> Option<Duration> {
+    let target = start(Options { patience: Duration::from_secs(patience), ..options() });
+    let (began, mut silent) = (Instant::now(), TcpStream::connect(target.address()).unwrap());
+    silent.set_read_timeout(Some(most)).unwrap();
+    silent.read_to_end(&mut vec![]).is_ok().then(|| began.elapsed())
 }
 
 #[test]
 fn a_host_that_sends_nothing_is_left() {
-    let target = start(Options { patience: Duration::from_secs(1), ..options() });
-    let silent = TcpStream::connect(target.address()).unwrap();
-    assert!(until_closed(silent) < Duration::from_secs(9));
+    assert!(let_be(1, Duration::from_secs(120)).is_some_and(|it| it >= Duration::from_secs(1)));
+    assert_eq!(let_be(1000, Duration::from_secs(3)), None);
 }
 
 #[test]
 fn without_keep_alive_a_host_loses_its_queues() {
     let target = start(options());
+    let timeout = Duration::from_secs(2);
     let mut host = Host::connect(&Dial { keep_alive: 2000, ..dial(&target) }, 1).unwrap();
-    for _ in 0..10 {
+    let (began, mut last) = (Instant::now(), Instant::now());
+    while began.elapsed() < 2 * timeout {
         std::thread::sleep(Duration::from_millis(200));
-        assert_eq!(code(&host.admin.call(Command::new(opcode::KEEP_ALIVE), &[], 0).unwrap()), DONE);
+        let told = host.admin.call(Command::new(opcode::KEEP_ALIVE), &[], 0);
+        // (where this machine did something else for longer than that, the host was late)
+        if last.elapsed() > timeout {
+            break;
+        }
+        assert_eq!(code(&told.unwrap()), DONE);
+        last = Instant::now();
     }
-    assert_eq!(write(&mut host, 0, &blocks(1, 1)), DONE);
     until("its queues end", || host.queues[0].call(Command::blocks(opcode::FLUSH, 0, 0), &[], 0).is_err());
     until("its connections end", || target.connections() == 0);
 }
 
 #[test]
 fn a_host_that_reads_nothing_holds_no_other_up() {
-    let target = start(Options { patience: Duration::from_secs(15), ..options() });
+    // (so long that the other's calls would fail first)
+    let target = start(Options { patience: Duration::from_secs(1000), ..options() });
     let mut lazy = Host::connect(&Dial { slots: 64, ..dial(&target) }.named("nqn.lazy"), 1).unwrap();
     for _ in 0..60 {
         lazy.queues[0].send(Command::blocks(opcode::READ, 0, 256), &[], 256 * 512).unwrap();
     }
     let mut other = host(&target, 1);
-    let began = Instant::now();
     for round in 0..100 {
         assert_eq!(write(&mut other, 9, &blocks(round, 1)), DONE);
     }
-    assert!(began.elapsed() < Duration::from_secs(9), "{:?}", began.elapsed());
     assert_eq!(read(&mut other, 9, 1), blocks(99, 1));
 }
 

@@ -1,7 +1,7 @@
 //! Hosts race for a lock block by fused pairs. The history and the hosts' own log are judged by the checker; a target that
 //! serves a pair as two commands is found by the log alone.
 mod common;
-use common::{Folder, blocks, dial, is_explained, is_legal, options, start};
+use common::{Folder, blocks, dial, give_way, is_explained, is_legal, options, start};
 use std::path::PathBuf;
 use std::sync::Barrier;
 use std::sync::atomic::{AtomicU64, Ordering};
@@ -40,11 +40,13 @@ fn contend(host: &mut Host, me: u64, rounds: u64, slots: u64, held: &[AtomicU64]
         let slot = random.next() % slots;
         let seen = read_lock(host, slot);
         if u64_at(&seen, 0) != 0 {
+            give_way();
             continue;
         }
         let number = u64_at(&seen, 8);
         let mine = lock(me, number + 1);
         if !host.queues[0].compare_and_write(slot, &seen, &mine).expect("a pair") {
+            give_way();
             continue;
         }
         double += u64::from(held[slot as usize].fetch_add(1, Ordering::SeqCst) != 0);

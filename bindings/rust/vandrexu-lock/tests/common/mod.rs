@@ -70,6 +70,11 @@ impl Drop for Scene {
     }
 }
 
+/// Whether a host was told that no queue is free: the target may not have seen yet that others left, on a slow machine.
+pub fn is_busy(told: &str) -> bool {
+    told.contains("status 1/81")
+}
+
 /// The history of a target that has ended is legal.
 pub fn is_legal(history: &Path) {
     let said = vandrexu::check_text(fs::read(history).expect("a history"));

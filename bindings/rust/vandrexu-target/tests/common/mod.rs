@@ -95,9 +95,14 @@ pub fn is_explained(trace: &Path) -> bool {
 pub fn until(what: &str, mut is_so: impl FnMut() -> bool) {
     let began = Instant::now();
     while !is_so() {
-        assert!(began.elapsed() < Duration::from_secs(30), "not so: {what}");
+        assert!(began.elapsed() < Duration::from_secs(120), "not so: {what}");
         thread::sleep(Duration::from_millis(20));
     }
+}
+
+/// Lets others go on, who hold what is asked for: on one processor a host would ask in vain for all of its time.
+pub fn give_way() {
+    thread::sleep(Duration::from_millis(1));
 }
 
 /// Numbers by chance, from a seed.

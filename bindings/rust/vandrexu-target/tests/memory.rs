@@ -1,0 +1,72 @@
+//! A target at its limit of memory, and one that is let have little. Its process is the test's, so one test runs at a time.
+mod common;
+use common::{DONE, Folder, blocks, code, dial, host, options, start, until, write};
+use std::sync::{Mutex, MutexGuard, PoisonError};
+use vandrexu_initiator::{BLOCK, Command, Dial, Host, Queue, opcode};
+use vandrexu_target::Options;
+
+/// No other test has memory meanwhile.
+fn alone() -> MutexGuard<'static, ()> {
+    static ALONE: Mutex<()> = Mutex::new(());
+    ALONE.lock().unwrap_or_else(PoisonError::into_inner)
+}
+
+/// The resident memory of this process, in bytes.
+fn resident() -> u64 {
+    let now = std::fs::read_to_string("/proc/self/statm").unwrap();
+    now.split(' ').nth(1).unwrap().parse::<u64>().unwrap() * 4096
+}
+
+#[test]
+fn a_target_keeps_no_step_that_it_wrote_down() {
+    let _alone = alone();
+    let folder = Folder::new();
+    for history in [None, Some(folder.file("history"))] {
+        let target = start(Options { history, memory: Some(resident() + (64 << 20)), ..options() });
+        let mut host = host(&target, 1);
+        for round in 0..1000u32 {
+            let data = blocks(round as u8, 256);
+            let answer = host.queues[0].call(Command::blocks(opcode::WRITE, 0, 256), &data, 0).unwrap();
+            assert_eq!(code(&answer), DONE, "Write {round} of 128 KiB");
+        }
+    }
+}
+
+#[test]
+fn over_its_memory_limit_a_target_answers_each_command() {
+    let _alone = alone();
+    let target = start(Options { memory: Some(1 << 20), ..options() });
+    let mut host = host(&target, 1);
+    for round in 0..50 {
+        assert_eq!(write(&mut host, 0, &blocks(round, 1)), (0, 6));
+    }
+    assert_eq!(code(&host.identify(1, 0).unwrap()), DONE);
+}
+
+#[test]
+fn what_a_target_took_before_its_limit_is_answered_behind_it() {
+    let _alone = alone();
+    let target = start(Options { memory: Some(resident() + (64 << 20)), seed: Some(2), ..options() });
+    let mut host = Host::connect(&Dial { slots: 64, ..dial(&target) }, 1).unwrap();
+    let queue = &mut host.queues[0];
+    let read = Command::blocks(opcode::READ, 0, 256);
+    let answered = |queue: &mut Queue| code(&queue.receive().unwrap());
+    for _ in 0..30 {
+        queue.send(read, &[], 256 * BLOCK).unwrap();
+    }
+    assert_eq!(answered(queue), DONE);
+    // (this process is the target's, too)
+    let ballast = vec![1u8; 128 << 20];
+    until("it refuses", || {
+        queue.send(Command::blocks(opcode::FLUSH, 0, 0), &[], 0).unwrap();
+        let told = answered(queue);
+        assert!([DONE, (0, 6)].contains(&told), "{told:?}");
+        told == (0, 6)
+    });
+    while queue.in_flight() > 0 {
+        assert!([DONE, (0, 6)].contains(&answered(queue)));
+    }
+    assert_eq!(ballast[ballast.len() / 2], 1);
+    drop(ballast);
+    until("it takes commands again", || code(&queue.call(read, &[], 256 * BLOCK).unwrap()) == DONE);
+}
