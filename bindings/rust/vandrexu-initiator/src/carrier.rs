@@ -61,7 +61,15 @@ pub struct Carrier<H> {
     /// What came, and wasn't brought yet.
     came: Option<Came>,
     dropped: u64,
+    /// What it is if the driver drops what was brought last.
+    is_wrong: &'static str,
 }
+
+/// The CID of a completion that no command waits for, as the driver is told: it gives none such.
+const NOBODYS: u16 = u16::MAX;
+
+/// What a driver drops though a command waited for it.
+const RESERVED: &str = "a completion with a reserved bit";
 
 impl Host {
     /// Gives the first of the I/O queues a driver, which is made for the queue's number. The queue is none of
@@ -84,7 +92,7 @@ fn driver_of<H>(queue: &Queue, make: impl FnOnce(u16) -> vandrexu::Result<H>) ->
 impl<H: Carried> Carrier<H> {
     fn new(queue: Queue, driver: H) -> Carrier<H> {
         let dropped = driver.dropped();
-        Carrier { queue, driver, batch: vec![], came: None, dropped }
+        Carrier { queue, driver, batch: vec![], came: None, dropped, is_wrong: RESERVED }
     }
 
     /// The driver, whose calls are begun by it and ended by the carrier.
@@ -127,16 +135,18 @@ impl<H: Carried> Carrier<H> {
         }
     }
 
-    /// Waits for the next completion, and brings it to the driver; the next call does, where there is no memory.
+    /// Waits for the next completion, and brings it to the driver, which drops and counts one that no command waits for. The
+    /// next call brings it, where there is no memory.
     fn receive(&mut self) -> Result<()> {
         let came = match self.came.take() {
             Some(came) => came,
             None => self.queue.next_answer()?,
         };
-        let cid = came.own.ok_or(Error::Target(NO_COMMAND))?;
         if !came.is_whole {
             return Err(Error::Target("less data than a Read asked for"));
         }
+        self.is_wrong = if came.own.is_some() { RESERVED } else { NO_COMMAND };
+        let cid = came.own.unwrap_or(NOBODYS);
         let completion = as_the_controllers(&came.answer.completion, self.queue.number(), cid);
         let brought = self.driver.incoming(completion, &came.answer.data);
         if brought.is_err() {
@@ -155,7 +165,7 @@ impl<H: Carried> Carrier<H> {
             }
             let before = replace(&mut self.dropped, self.driver.dropped());
             if self.dropped > before {
-                return Err(Error::Target("a completion with a reserved bit"));
+                return Err(Error::Target(self.is_wrong));
             }
             self.receive()?;
         }
@@ -181,7 +191,8 @@ impl Carrier<RemoteHost> {
     /// Carries until this call is over, and says what became of it.
     ///
     /// # Errors
-    /// As those of [`send`](Carrier::send); what a target doesn't send, as a completion that no command is owed; `NoCall`.
+    /// As those of [`send`](Carrier::send); what a target doesn't send, as a completion that no command is owed, behind which
+    /// the call may be asked for again; `NoCall`.
     pub fn reply(&mut self, call: CallNumber) -> Result<Reply> {
         self.told(|host| host.poll(call).map(|it| if it == Reply::Pending { None } else { Some(it) }))
     }

@@ -18,6 +18,8 @@ const NOT_GOT: u8 = 1;
 const BAD_WORDS: u8 = 2;
 /// The target can't be reached, or refuses; or the command can't be started.
 const FAILED: u8 = 3;
+/// Memory is refused.
+const NO_MEMORY: u8 = 4;
 
 /// How long it waits between two claims.
 const PAUSE: Duration = Duration::from_millis(20);
@@ -42,9 +44,14 @@ fn main() -> ExitCode {
         Ok(status) => ExitCode::from(status),
         Err(what) => {
             eprintln!("vandrexu-lock: {what}");
-            ExitCode::from(FAILED)
+            ExitCode::from(status_of(&what))
         }
     }
+}
+
+/// The exit status of a failure.
+fn status_of(error: &Error) -> u8 {
+    if matches!(error, Error::Driver(vandrexu::Error::NoMemory)) { NO_MEMORY } else { FAILED }
 }
 
 fn dial(words: &Words) -> Dial {
@@ -204,4 +211,16 @@ fn release_again(slots: Slots, words: &Words, name: Name) -> Result<bool> {
     let Slots { _host, carrier, .. } = slots;
     let mut pairs = carrier.with(|queue| RemoteHost::new(words.host, queue, 0))?;
     pairs.compare_and_write(block, &block_of(name), &[0; BLOCK])
+}
+
+#[cfg(test)]
+mod tests {
+    use super::{Error, FAILED, NO_MEMORY, status_of};
+
+    #[test]
+    fn a_failure_has_the_status_that_casdisk_gives_it() {
+        assert_eq!(status_of(&Error::Driver(vandrexu::Error::NoMemory)), NO_MEMORY);
+        assert_eq!(status_of(&Error::Driver(vandrexu::Error::NoCall)), FAILED);
+        assert_eq!(status_of(&Error::Target("no readiness")), FAILED);
+    }
 }

@@ -1,6 +1,6 @@
 //! Hosts with the library's driver over a connection: what they are answered, and what their log says.
 mod common;
-use common::{Folder, blocks, dial, is_explained, is_legal, options, start, until};
+use common::{Folder, blocks, dial, give_way, is_explained, is_legal, options, start, until};
 use std::io::Write;
 use std::net::{TcpListener, TcpStream};
 use std::sync::atomic::{AtomicU32, Ordering};
@@ -74,6 +74,20 @@ fn what_is_begun_is_answered_whatever_is_asked_for_first() {
         assert_eq!(carrier.reply(compared).unwrap(), Reply::Differs);
         assert!(matches!(carrier.reply(compared), Err(Error::Driver(Fault::NoCall))));
     }
+}
+
+#[test]
+fn thirty_two_pairs_are_in_flight_and_asked_for_in_any_order() {
+    let target = start(Options { seed: Some(4), ..options() });
+    let (_host, mut carrier) = plain(&dial(&target), 1).unwrap();
+    let pair = |lba: u64| (lba, blocks(0, 1), blocks(1, 1));
+    let mut begin = |(lba, old, new): (u64, Vec<u8>, Vec<u8>)| carrier.driver().compare_and_write(lba, &old, &new);
+    let calls: Vec<_> = (0..32).map(|at| begin(pair(at % 31)).unwrap()).collect();
+    assert_eq!(begin(pair(40)), Err(Fault::CallNoRoom));
+    let told = |at: usize| carrier.reply(calls[at]).unwrap();
+    // 7 has no factor in common with 32; the last pair is of the block of the first
+    let swapped = (0..32).map(|at| at * 7 % 32).map(told).filter(|it| *it == Reply::Swapped).count();
+    assert_eq!(swapped, 31);
 }
 
 #[test]
@@ -162,6 +176,7 @@ fn contend(host: &mut Carrier<RemoteHost>, me: u8, rounds: u32, held: &[AtomicU3
     while won < rounds {
         let lock = random.below(held.len());
         if !host.compare_and_write(lock as u64, &free, &mine).expect("a pair") {
+            give_way();
             continue;
         }
         double += u32::from(held[lock].fetch_add(1, Ordering::SeqCst) != 0);
@@ -223,8 +238,21 @@ fn what_a_wrong_target_answers_twice_or_never_is_told() {
         }
         Ok(())
     };
-    let twice = ask(&start(fault(FaultKind::DoubleCompletion)), Duration::from_secs(20));
-    assert!(matches!(twice, Err(Error::Target("a completion of no command"))), "{twice:?}");
+    let twice = start(fault(FaultKind::DoubleCompletion));
+    let told = ask(&twice, Duration::from_secs(20));
+    assert!(matches!(told, Err(Error::Target("a completion of no command"))), "{told:?}");
+    // the driver drops and counts it, and the call goes on
+    let (_host, mut carrier) = plain(&dial(&twice), 2).unwrap();
+    for _ in 0..20 {
+        let (call, before) = (carrier.driver().read(3, 1).unwrap(), carrier.driver().dropped());
+        let told = carrier.reply(call).or_else(|why| {
+            assert!(matches!(why, Error::Target("a completion of no command")), "{why:?}");
+            assert_eq!(carrier.driver().dropped(), before + 1);
+            carrier.reply(call)
+        });
+        assert_eq!(told.unwrap(), Reply::Read(blocks(0, 1)));
+    }
+    assert_eq!(carrier.driver().dropped(), 6);
     let never = ask(&start(fault(FaultKind::LostCompletion)), Duration::from_secs(1));
     assert!(matches!(never, Err(Error::Connection(_))), "{never:?}");
     assert!(ask(&start(options()), Duration::from_secs(20)).is_ok());
@@ -325,6 +353,7 @@ fn slot_hosts_on_connections_of_their_own_never_hold_one_slot() {
                 let mut had = 0;
                 while had < 25 {
                     if !carrier.claim(1).expect("a claim") {
+                        give_way();
                         continue;
                     }
                     assert_eq!(holders.fetch_add(1, Ordering::SeqCst), 0);
