@@ -14,7 +14,7 @@ use words::{Task, USAGE, Words};
 
 /// The slot wasn't got.
 const NOT_GOT: u8 = 1;
-/// A bad command line.
+/// A bad command line, or slots beyond the volume.
 const BAD_WORDS: u8 = 2;
 /// The target can't be reached, or refuses; or the command can't be started.
 const FAILED: u8 = 3;
@@ -51,7 +51,12 @@ fn main() -> ExitCode {
 
 /// The exit status of a failure.
 fn status_of(error: &Error) -> u8 {
-    if matches!(error, Error::Driver(vandrexu::Error::NoMemory)) { NO_MEMORY } else { FAILED }
+    match error {
+        Error::Driver(vandrexu::Error::NoMemory) => NO_MEMORY,
+        Error::Driver(vandrexu::Error::BadArea) => BAD_WORDS,
+        Error::Refused(it, _) if it.is(Status::LBA_OUT_OF_RANGE) => BAD_WORDS,
+        _ => FAILED,
+    }
 }
 
 fn dial(words: &Words) -> Dial {
@@ -215,11 +220,14 @@ fn release_again(slots: Slots, words: &Words, name: Name) -> Result<bool> {
 
 #[cfg(test)]
 mod tests {
-    use super::{Error, FAILED, NO_MEMORY, status_of};
+    use super::{BAD_WORDS, Error, FAILED, NO_MEMORY, Status, status_of};
 
     #[test]
     fn a_failure_has_the_status_that_casdisk_gives_it() {
         assert_eq!(status_of(&Error::Driver(vandrexu::Error::NoMemory)), NO_MEMORY);
+        assert_eq!(status_of(&Error::Driver(vandrexu::Error::BadArea)), BAD_WORDS);
+        assert_eq!(status_of(&Error::Refused(Status::LBA_OUT_OF_RANGE.no_retry(), 0)), BAD_WORDS);
+        assert_eq!(status_of(&Error::Refused(Status::CONNECT_BUSY, 0)), FAILED);
         assert_eq!(status_of(&Error::Driver(vandrexu::Error::NoCall)), FAILED);
         assert_eq!(status_of(&Error::Target("no readiness")), FAILED);
     }

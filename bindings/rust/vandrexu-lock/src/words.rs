@@ -20,9 +20,9 @@ OPTIONS: --target ADDRESS:PORT   the target
          --name NAME             the name of this host (nqn.2026-11.org.vandrexu:lock:H, or lock:status)
 
 The exit status is the command's own, or 128 and the signal that ended it; 1 where the slot wasn't got, 2 for a bad
-command line, 3 where the target can't be reached or refuses, 4 where memory is refused. Each host has a number of its own. A
-slot of a host that died stays held until it is taken over: see to it first that nothing of that host reaches the target any
-more.
+command line or slots beyond the volume, 3 where the target can't be reached or refuses, 4 where memory is refused. Each
+host has a number of its own. A slot of a host that died stays held until it is taken over: see to it first that nothing
+of that host reaches the target any more.
 ";
 
 /// What is asked for.

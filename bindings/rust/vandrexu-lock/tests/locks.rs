@@ -272,7 +272,14 @@ fn what_is_wrong_has_its_status() {
     let beyond = ["status", "--target", &scene.address, "--area", "65535,2"];
     let Output { status, stderr, .. } =
         Command::new(env!("CARGO_BIN_EXE_vandrexu-lock")).args(beyond).output().unwrap();
-    assert!(status.code() == Some(3) && String::from_utf8_lossy(&stderr).contains("behind block 65,535"));
+    assert!(status.code() == Some(2) && String::from_utf8_lossy(&stderr).contains("behind block 65,535"));
+    // (nor has this target)
+    let small = Scene::with("small", |_, it| Options { config: Config { blocks: 66, ..it.config }, ..it });
+    for (slot, due) in [("1", 0), ("2", 2)] {
+        let (status, _, told) = small.ran(&["--slot", slot, "--host", "1", "--", "true"]);
+        assert_eq!(status, due, "slot {slot}: {told}");
+    }
+    assert!(small.ran(&["status"]).0 == 2 && small.ran(&["status"]).2.contains("status 0/80"));
     assert_eq!(scene.ran(&["--slot", "0", "--host", "1", "--nqn", "nqn.none", "--", "true"]).0, 3);
     assert_eq!(scene.ran(&["--slot", "0", "--host", "1", "--", "/no/such/program"]).0, 3);
     assert!(scene.ran(&["status"]).1.starts_with("slot 0: free"));

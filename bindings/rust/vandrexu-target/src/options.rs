@@ -152,7 +152,7 @@ impl Options {
             "--allow" => self.allow.push(value),
             "--connections" => self.connections = number(name, &value)? as usize,
             "--memory" => self.memory = Some(number(name, &value)?),
-            "--patience" => self.patience = Duration::from_secs(number(name, &value)?),
+            "--patience" if number(name, &value)? > 0 => self.patience = Duration::from_secs(number(name, &value)?),
             "--fault" => self.fault = Some(value.parse()?),
             _ => return Err(format!("{name} {value}: no such option, or a value that it can't have")),
         }

@@ -107,7 +107,14 @@ fn words_of_the_command_line_are_read_or_told() {
     let no_room =
         Options { config: vandrexu_target::Config { sq_size: 2, ..common::options().config }, ..common::options() };
     assert!(Target::start(no_room).is_err_and(|it| it.contains("no room for a pair")));
-    for wrong in [&["--blocks", "0"][..], &["--seed", "x"], &["--what", "1"], &["--listen"], &["--fault", "none"]] {
+    for wrong in [
+        &["--blocks", "0"][..],
+        &["--seed", "x"],
+        &["--what", "1"],
+        &["--listen"],
+        &["--fault", "none"],
+        &["--patience", "0"],
+    ] {
         assert!(of(wrong).is_err(), "{wrong:?}");
     }
 }

@@ -75,6 +75,8 @@ impl Status {
     pub const SGL_OFFSET: Status = Status(0x16);
     /// Transient Transport Error.
     pub const TRANSPORT: Status = Status(0x22);
+    /// LBA Out of Range.
+    pub const LBA_OUT_OF_RANGE: Status = Status(0x80);
     /// Asynchronous Event Request Limit Exceeded.
     pub const TOO_MANY_EVENTS: Status = Status(0x105);
     /// Invalid Log Page.
