@@ -3,7 +3,8 @@
 //!
 //! A [`Carrier`] is an I/O queue with a driver of the library, which is proved: what the driver publishes is sent, and what
 //! comes is brought to it. A [`Queue`] by itself sends whatever it is told to, also what is wrong. Nothing of it is proved,
-//! nor of what carries.
+//! nor of what carries. Where a connection is lost, connect again and make a new driver: of what the first had in flight each
+//! was served or not, as a Read tells.
 //!
 //! ```no_run
 //! use vandrexu::{RemoteHost, Reply};

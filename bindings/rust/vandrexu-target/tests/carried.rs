@@ -169,6 +169,25 @@ fn a_queue_is_given_another_driver_where_all_is_answered() {
     assert!(matches!(early, Err(Error::Driver(Fault::InCall))));
 }
 
+#[test]
+fn a_host_whose_connection_is_lost_comes_again_as_a_new_driver() {
+    let folder = Folder::new();
+    let with_image = || Options { image: Some(folder.file("image")), ..options() };
+    let target = start(with_image());
+    let (host, mut carrier) = plain(&dial(&target), 1).unwrap();
+    assert!(carrier.compare_and_write(3, &blocks(0, 1), &blocks(1, 1)).unwrap());
+    drop(target);
+    let call = carrier.driver().compare_and_write(3, &blocks(1, 1), &blocks(2, 1)).unwrap();
+    let lost = carrier.reply(call);
+    assert!(matches!(lost, Err(Error::Connection(_))), "{lost:?}");
+    drop((carrier, host));
+    let target = start(with_image());
+    let (_host, mut carrier) = plain(&dial(&target), 1).unwrap();
+    assert!(matches!(carrier.reply(call), Err(Error::Driver(Fault::NoCall))), "a new driver doesn't know it");
+    let read = carrier.driver().read(3, 1).unwrap();
+    assert_eq!(carrier.reply(read).unwrap(), Reply::Read(blocks(1, 1)));
+}
+
 /// Takes a lock of some by pairs and gives it back, so many times; how often two had one.
 fn contend(host: &mut Carrier<RemoteHost>, me: u8, rounds: u32, held: &[AtomicU32]) -> u32 {
     let (mut won, mut double, mut random) = (0, 0, common::Random(u64::from(me) * 77 + 1));
