@@ -252,11 +252,13 @@ fn commands_in_flight_end_in_another_order_by_a_seed_and_all_is_explained() {
     let (mut in_order, mut last) = (true, [0; 2]);
     for round in 0..20u64 {
         for (at, queue) in host.queues.iter_mut().enumerate() {
-            for slba in 0..8 {
-                let data = unlike(round * 16 + slba * 2 + at as u64);
-                queue.send(Command::blocks(opcode::WRITE, slba * 4, 8), &data, 0).unwrap();
-                queue.send(Command::blocks(opcode::READ, slba * 4, 8), &[], 8 * BLOCK).unwrap();
-            }
+            let data: Vec<_> = (0..8).map(|slba| unlike(round * 16 + slba * 2 + at as u64)).collect();
+            let of = |opcode, slba: u64| Command::blocks(opcode, slba * 4, 8);
+            let pairs = (0..8)
+                .zip(&data)
+                .flat_map(|(slba, data)| [(of(opcode::WRITE, slba), &data[..]), (of(opcode::READ, slba), &[])]);
+            // (in one piece, so that the target has them together on a machine of one processor, too)
+            queue.send_all(&pairs.collect::<Vec<_>>(), 8 * BLOCK).unwrap();
         }
         for (at, queue) in host.queues.iter_mut().enumerate() {
             while queue.in_flight() > 0 {

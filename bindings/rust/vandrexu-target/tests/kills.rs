@@ -6,7 +6,7 @@ use std::io::{BufRead, BufReader};
 use std::net::SocketAddr;
 use std::path::Path;
 use std::process::{Child, Command as Process, Stdio};
-use std::sync::mpsc::channel;
+use std::sync::mpsc::{Sender, channel};
 use std::thread;
 use std::time::Duration;
 use vandrexu_initiator::{BLOCK, Command, Dial, Host, Queue, opcode, u64_at};
@@ -83,9 +83,14 @@ struct Known {
     open: Vec<u64>,
 }
 
-/// Writes units until the target is gone, by plain Writes and by pairs.
-fn write_on(mut queue: Queue, known: &mut [Known], next: &mut u64, random: &mut Random) {
-    loop {
+/// Writes units until the target is gone, by plain Writes and by pairs. Where some were done it may be killed, so that each life
+/// does something on a slow machine, too.
+fn write_on(mut queue: Queue, known: &mut [Known], next: &mut u64, random: &mut Random, go: &Sender<()>) {
+    let due = random.below(6);
+    for done in 0.. {
+        if done == due {
+            go.send(()).expect("a killer");
+        }
         let at = random.below(UNITS as usize);
         let it = &mut known[at];
         *next += 1;
@@ -138,8 +143,7 @@ fn an_image_survives_kills_at_any_moment() {
             thread::sleep(wait);
             running.kill();
         });
-        go.send(()).expect("a killer");
-        write_on(host.queues.remove(0), &mut known, &mut next, &mut random);
+        write_on(host.queues.remove(0), &mut known, &mut next, &mut random, &go);
         killer.join().expect("a kill");
     }
     eprintln!("{kills} kills, {next} units were begun");
