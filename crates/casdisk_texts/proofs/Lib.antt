@@ -4,6 +4,7 @@ mod Collected
 mod Configurations
 mod KindsLemmas
 mod Followed
+mod Checked
 pub mod Placing
 mod Printed
 mod Settling

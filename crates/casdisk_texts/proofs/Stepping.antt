@@ -41,6 +41,13 @@ pub config_served : (old new : ControllerState) (step : Step) (r : Result Answer
 config_served old new step (Ok a) s = ap (λ (x : ControllerState). x.config) s.1
 config_served old new step (Err r) s = ap (λ (x : ControllerState). x.config) s.1
 
+-- nothing more is there to be seen of a refused step
+pub refused_seen : (old new : ControllerState) (Stands : Past → Type 0) (r : Result (Unit {0}) WriteFault)
+    → new ≡ record old { room = new.room } → Stands old.past → OnOk r (Stands new.past)
+refused_seen old new Stands (Ok x) same stands =
+    subst Stands (sym (ap (λ (x : ControllerState). x.past) same)) stands
+refused_seen old new Stands (Err x) same stands = tt
+
 module _ (kinds : ℕ) (old new : ControllerState) (step : Step) (w v : Option (List ℕ)) where
   module _ (r : Result (Unit {0}) WriteFault) (none : refusal old.config old.past step ≡ None)
       (made : new ≡ state_after old step new.room) (few : old.forgotten ≤ length old.past) where
@@ -56,6 +63,15 @@ module _ (kinds : ℕ) (old new : ControllerState) (step : Step) (w v : Option (
         subst (λ o. SaysAll (step_by kinds old.config old.past step o) new.past w v) (sym none)
         (ap (λ (x : ControllerState). x.past) made, p))
         (told (next_entry old.config old.past step) old.past (ap (λ (x : ControllerState). x.past) made) kept)
+
+    -- whoever watches has seen the new entry too
+    pub made_seen : (Before After : Past → Type 0) → ((e : Entry) (past : Past) → new.past ≡ e ∷ past
+        → new.forgotten ≤ length past → Before past → OnOk r (After (e ∷ past)))
+        → Before old.past → OnOk r (After new.past)
+    made_seen Before After seen stands =
+        let is = ap (λ (x : ControllerState). x.past) made in
+        subst (λ p. OnOk r (After p)) (sym is)
+        (seen (next_entry old.config old.past step) old.past is kept stands)
 
     pub made_stopped : ((e : Entry) (past : Past) → new.past ≡ e ∷ past → new.forgotten ≤ length past
         → OnErr r (AppendsFront w v (entry_text kinds e)))

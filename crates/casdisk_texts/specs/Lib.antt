@@ -7,6 +7,7 @@ pub mod Running
 pub mod Files
 pub mod Entries
 pub mod Judged
+pub mod Checked
 pub mod Followed
 pub mod Explained
 pub mod Kinds

@@ -12,6 +12,7 @@ ghost use Rattle.casdisk_texts.specs.Judged.{HasFirstBad, HasJudged};
 use crate::fault::RunFault;
 use crate::history_lines::HistoryLines;
 use crate::meaning::EntryMeaning;
+use crate::watching::Watch;
 use broken_rules::Broken;
 use history::{Config, Entry};
 use history_check::Checker;
@@ -110,6 +111,14 @@ impl<const WHY: bool> EntryMeaning for Judge<WHY> {
 
     fn take_entry(&mut self, entry: Entry) -> Result<(), NoMemory> {
         self.judge(&entry)
+    }
+}
+
+impl<const WHY: bool> Watch for Judge<WHY> {
+    ghost stands = { λ m c past. HasJudged WHY c past m.checker m.count m.bad };
+
+    fn see(&mut self, entry: &Entry) -> Result<(), NoMemory> {
+        self.judge(entry)
     }
 }
 

@@ -24,6 +24,7 @@ mod running;
 mod script;
 mod trace_reading;
 mod tracing;
+mod watching;
 
 pub use crate::answer_objects::{answer_object, explained_object, verdict_object};
 pub use crate::certify_fault::CertifyFault;
@@ -40,6 +41,6 @@ pub use crate::logged::Logged;
 pub use crate::meaning::{EntryMeaning, LineMeaning, Taken, WriteFault};
 pub use crate::object::{Fields, object_line};
 pub use crate::running::run_lines;
-pub use crate::script::run_script;
+pub use crate::script::{run_checked, run_script};
 pub use crate::trace_reading::{Trace, read_trace};
 pub use crate::tracing::trace_text;

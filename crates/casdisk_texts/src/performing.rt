@@ -2,6 +2,7 @@
 
 ghost use Rattle.std.specs.Prelude.{◌≡◌, ◌≤◌, OnOk, OnErr, [], length};
 ghost use Rattle.nvme_model.specs.History.{Past};
+ghost use Rattle.nvme_model.specs.declared.config.ConfigNumbers.{ConfigNumbers};
 ghost use Rattle.nvme_model.specs.declared.entry.Entry.{Entry};
 ghost use Rattle.std.specs.Io.KnownBytes.{Appends};
 ghost use Rattle.line_text.specs.Known.{AppendsFront};
@@ -16,6 +17,7 @@ ghost use Rattle.std.specs.Prelude.{◌∷◌, ◌≢◌};
 
 use crate::meaning::{LineMeaning, Taken, WriteFault};
 use crate::printing::{print_entry, print_medium, print_refusal};
+use crate::watching::Watch;
 use history::{Kinds, LineFault};
 use line_text::send;
 use nvme_model::refusal::Why;
@@ -26,12 +28,13 @@ use std::io::Write;
 use step_core::{Answer, Core, Refused};
 
 /// A controller that does what the lines of a script say, and prints the lines of these kinds. It forgets each step
-/// once it is printed.
+/// once it is seen by whoever watches, and printed.
 #[derive(Drop)]
-pub(crate) struct Performer {
+pub(crate) struct Performer<J: Watch + Drop> {
     pub(crate) alloc: Global,
     pub(crate) core: Core,
     pub(crate) kinds: Kinds,
+    pub(crate) watch: J,
     // the text of a line, until it is sent
     pub(crate) text: Vec<u8>,
 }
@@ -56,10 +59,11 @@ fn send_text<W: Write>(text: &[u8], writer: &mut W) -> Result<(), WriteFault>
     }
 }
 
-impl Performer {
+impl<J: Watch + Drop> Performer<J> {
     // Prints that a step was refused, or stops where it was for want of memory.
     fn tell_refusal<W: Write>(&mut self, why: Why, writer: &mut W) -> Result<(), WriteFault>
         ensures same { (self.new.core ≡ self.old.core) × (self.new.kinds ≡ self.old.kinds) }
+        ensures unseen { self.new.watch ≡ self.old.watch }
         ensures told { OnOk result
             (Appends (W.contents writer.old) (W.contents writer.new) (refusal_text self.old.kinds.0 why)) }
         ensures other { OnOk result (why ≢ TheWhy.NoMemory) }
@@ -78,7 +82,7 @@ impl Performer {
         send_text(self.text.as_slice(), writer)
     }
 
-    // Prints the newest entry, which isn't forgotten.
+    // Shows the newest entry, which isn't forgotten, to whoever watches, and prints it.
     fn tell_entry<W: Write>(&mut self, writer: &mut W) -> Result<(), WriteFault>
         ensures same { (self.new.core ≡ self.old.core) × (self.new.kinds ≡ self.old.kinds) }
         ensures told { (e : Entry) (past : Past) → self.old.core.past ≡ e ∷ past →
@@ -87,6 +91,9 @@ impl Performer {
         ensures stopped { (e : Entry) (past : Past) → self.old.core.past ≡ e ∷ past →
             self.old.core.forgotten ≤ length past → OnErr result
             (AppendsFront (W.contents writer.old) (W.contents writer.new) (entry_text self.old.kinds.0 e)) }
+        ensures seen { (e : Entry) (past : Past) → self.old.core.past ≡ e ∷ past →
+            self.old.core.forgotten ≤ length past → (c : ConfigNumbers) → J.stands self.old.watch c past →
+            OnOk result (J.stands self.new.watch c (e ∷ past)) }
     {
         self.text.clear();
         let Some(entry) = self.core.history().last() else {
@@ -95,12 +102,16 @@ impl Performer {
         if print_entry(self.kinds, entry, &mut self.text).is_err() {
             return Err(WriteFault::NoMemory);
         }
+        let Ok(()) = self.watch.see(entry) else {
+            return Err(WriteFault::NoMemory);
+        };
         send_text(self.text.as_slice(), writer)
     }
 
     // Prints a block of the volume.
     fn tell_medium<W: Write>(&mut self, lba: u64, writer: &mut W) -> Result<(), WriteFault>
         ensures same { (self.new.core ≡ self.old.core) × (self.new.kinds ≡ self.old.kinds) }
+        ensures unseen { self.new.watch ≡ self.old.watch }
         ensures told { OnOk result (Appends (W.contents writer.old) (W.contents writer.new)
             (medium_text self.old.kinds.0 self.old.core.config self.old.core.past lba)) }
         ensures stopped { OnErr result (AppendsFront (W.contents writer.old) (W.contents writer.new)
@@ -128,6 +139,9 @@ impl Performer {
             before.forgotten ≤ length before.past →
             OnErr result (AppendsFront (W.contents writer.old) (W.contents writer.new)
             (step_says self.old.kinds.0 before.config before.past step).1) }
+        ensures seen { (before : ControllerState) (step : TheStep) → Serves before step answer self.old.core →
+            before.forgotten ≤ length before.past → (c : ConfigNumbers) → J.stands self.old.watch c before.past →
+            OnOk result (J.stands self.new.watch c self.new.core.past) }
     {
         match answer {
             Ok(_) => self.tell_entry(writer),
@@ -142,6 +156,8 @@ impl Performer {
             self.new.core.past (W.contents writer.old) (W.contents writer.new)) }
         ensures stopped { OnErr result (AppendsFront (W.contents writer.old) (W.contents writer.new)
             (step_says self.old.kinds.0 self.old.core.config self.old.core.past step).1) }
+        ensures seen { (c : ConfigNumbers) → J.stands self.old.watch c self.old.core.past →
+            OnOk result (J.stands self.new.watch c self.new.core.past) }
     {
         // A read tells the proof that no more were forgotten than there are.
         let _ = self.core.history();
@@ -158,6 +174,8 @@ impl Performer {
             self.old.core.past) self.new.core.past (W.contents writer.old) (W.contents writer.new)) }
         ensures stopped { OnErr result (AppendsFront (W.contents writer.old) (W.contents writer.new)
             (settle_says all_ready self.old.kinds.0 self.old.core.config self.old.core.past).1) }
+        ensures seen { (c : ConfigNumbers) → J.stands self.old.watch c self.old.core.past →
+            OnOk result (J.stands self.new.watch c self.new.core.past) }
     {
         for _turn in 0..u64::MAX {
             let _ = self.core.history();
@@ -171,8 +189,8 @@ impl Performer {
     }
 }
 
-impl LineMeaning for Performer {
-    ghost stands = { λ m c past. m.core.past ≡ past };
+impl<J: Watch + Drop> LineMeaning for Performer<J> {
+    ghost stands = { λ m c past. (m.core.past ≡ past) × J.stands m.watch c past };
 
     ghost meaning = { λ m. script_line m.core.config m.kinds.0 };
 

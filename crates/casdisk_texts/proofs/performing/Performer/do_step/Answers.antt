@@ -22,3 +22,9 @@ pub returns-clause-stopped : goal.returns-clause-stopped
 returns-clause-stopped g c =
     c.tell_answer-told.ensures.stopped c.args.self.now.core c.args.step c.step-answer.ensures.serves
     c.history.ensures.few
+
+pub returns-clause-seen : goal.returns-clause-seen
+returns-clause-seen g c k stands =
+    rw (ap (λ (x : ControllerState). x.past) c.forget.ensures.state)
+    (c.tell_answer-told.ensures.seen c.args.self.now.core c.args.step c.step-answer.ensures.serves
+    c.history.ensures.few k stands)

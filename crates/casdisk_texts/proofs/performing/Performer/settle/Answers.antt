@@ -6,7 +6,7 @@ use Rattle.casdisk_texts.proofs.Stepping.{config_served}
 use Rattle.casdisk_texts.proofs.performing.Performer.settle.Goals as goal
 
 pub loop-turn-init : goal.loop-turn-init
-loop-turn-init g c = record { config = refl; kinds = refl; settled = settled_none _ _ _ _ }
+loop-turn-init g c = record { config = refl; kinds = refl; settled = settled_none _ _ _ _; seen = λ k stands. stands }
 
 pub returns-in_default-clause-same : goal.returns-in_default-clause-same
 returns-in_default-clause-same g c = (
@@ -55,6 +55,9 @@ loop-turn-preserved g c =
       kinds = same.1 ∙ inv.kinds;
       settled = rw (ap (λ (x : ControllerState). x.past) c.forget.ensures.state)
           (settled_next _ _ _ _ _ _ _ c.in-Some._step some inv.settled c.loop-turn-test.true _ _ done);
+      seen = λ k stands. rw (ap (λ (x : ControllerState). x.past) c.forget.ensures.state)
+          (c.in_ok-tell_answer.ensures.seen c.loop-turn.self.core c.in-Some._step c.in-Some.ensures.serves
+          c.history.ensures.few k (inv.seen k stands));
     }
 
 pub returns-clause-same : goal.returns-clause-same
@@ -64,3 +67,9 @@ pub returns-clause-done : goal.returns-clause-done
 returns-clause-done g c =
     let inv = c.loop-turn.invariant in
     settled_all _ _ _ _ _ _ _ inv.settled (omega (arith, c.loop-turn-test.false, c.loop-turn.auto._turn-end))
+
+pub returns-in_default-clause-seen : goal.returns-in_default-clause-seen
+returns-in_default-clause-seen g c k stands = rw c.in_default.ensures.serves (c.loop-turn.invariant.seen k stands)
+
+pub returns-clause-seen : goal.returns-clause-seen
+returns-clause-seen g c k stands = c.loop-turn.invariant.seen k stands

@@ -1,7 +1,8 @@
-use Rattle.std.proofs.Common.{ap, subst, ◌∙◌}
+use Rattle.std.proofs.Common.{None, ap, subst, ◌∙◌}
 use Rattle.controller_interface.specs.State.{Serves}
 use Rattle.casdisk_texts.specs.Doing.{why_of}
-use Rattle.casdisk_texts.proofs.Stepping.{made_done, made_stopped, refused_done, refused_stopped, why_refused}
+use Rattle.casdisk_texts.proofs.Stepping.{made_done, made_seen, made_stopped, refused_done}
+use Rattle.casdisk_texts.proofs.Stepping.{refused_seen, refused_stopped, why_refused}
 use Rattle.casdisk_texts.proofs.performing.Performer.tell_answer.Goals as goal
 
 pub returns-in-Ok-clause-done : goal.returns-in-Ok-clause-done
@@ -32,3 +33,19 @@ returns-clause-stopped g c before step served few =
     let told = c.tell_refusal.ensures in
     refused_stopped c.args.self.now.kinds.0 before c.args.self.now.core step _ _ c.why_of.result is
     c.tell_refusal.result told.stopped told.silent
+
+pub returns-in-Ok-clause-seen : goal.returns-in-Ok-clause-seen
+returns-in-Ok-clause-seen g c before step served few k stands =
+    let s = subst (λ r. Serves before step r c.args.self.now.core) c.in-Ok.is served in
+    let told = c.tell_entry.ensures in
+    rw told.same.0 (made_seen c.args.self.now.kinds.0 before c.args.self.now.core step None None c.tell_entry.result
+    s.0.0 s.1 few (g.J.Watch.stands c.args.self.now.watch k) (g.J.Watch.stands c.tell_entry.new.self.watch k)
+    (λ e past is kept at. told.seen e past is kept k at) stands)
+
+pub returns-clause-seen : goal.returns-clause-seen
+returns-clause-seen g c before step served few k stands =
+    let s = subst (λ r. Serves before step r c.args.self.now.core) c.in-Err.is served in
+    let told = c.tell_refusal.ensures in
+    rw (told.same.0, told.unseen)
+    (refused_seen before c.args.self.now.core (g.J.Watch.stands c.args.self.now.watch k) c.tell_refusal.result s.1
+    stands)
