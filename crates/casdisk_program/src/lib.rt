@@ -24,6 +24,7 @@ mod racing;
 mod randoms;
 mod reader;
 mod refute;
+mod running;
 mod seed_objects;
 mod seeding;
 mod shrinking;

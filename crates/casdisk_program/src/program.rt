@@ -7,21 +7,18 @@ use crate::failure::{Failure, end_failure, end_fault, failure_of};
 use crate::in_words::tell_file;
 use crate::input::opened;
 use crate::observing::{ProofFiles, observe_file};
-use crate::output_buffer::BUFFER;
 use crate::racing::race_as_asked;
 use crate::randoms::random_file;
 use crate::refute::refute_files;
+use crate::running::run_file;
 use crate::seeding::race_asked;
 use crate::shrinking::shrink_file;
 use crate::slots::{check_slots_file, explain_slots_file};
 use crate::tracing::trace_run;
-use casdisk_texts::{RunFault, run_script};
+use casdisk_texts::RunFault;
 use command_line::{Asked, ColorChoice, Shown, UsageFault, asked};
-use file_commands::Grammar;
-use history::Kinds;
 use history_words::Paint;
 use std::env::VarError;
-use std::io::{BufWriter, Read, Write};
 use std::process::ExitCode;
 use std::rt::{Env, Files};
 use std::sync::Wait;
@@ -122,10 +119,11 @@ fn finish<R: Threads + Wait + Sync + Files + Clock + Env + Input + Print + Eprin
         } => trace_run(rt, why, file),
         Asked::Run {
             shown: Shown::Kinds(kinds),
+            check,
             flush,
             why,
             file,
-        } => run_file(rt, kinds, flush, why, file),
+        } => run_file(rt, kinds, check, flush, why, file),
         Asked::Check {
             area: Some(area),
             json,
@@ -249,40 +247,4 @@ fn finish<R: Threads + Wait + Sync + Files + Clock + Env + Input + Print + Eprin
         Ok(status) => ExitCode::from(status),
         Err(failure) => ExitCode::from(end_failure(rt, failure)),
     }
-}
-
-// Runs a script, and then gives the status 0. Its text goes out in pieces, the last of them before a fault is told;
-// where it flushes, each line's as soon as it is made.
-fn run_file<R: Files + Input + Print + AllocGlobal>(
-    rt: &R,
-    kinds: Kinds,
-    flush: bool,
-    why: bool,
-    file: &str,
-) -> Result<u8, Failure> {
-    let mut input = opened(rt, file, why)?;
-    let done = if flush {
-        run_script(rt.alloc(), &mut input, &mut io::writer(rt), kinds)
-    } else {
-        run_buffered(rt, kinds, &mut input)
-    };
-    match done {
-        Ok(()) => Ok(0),
-        Err(fault) => Err(failure_of(rt.alloc(), file, &input, Grammar::Script, fault)),
-    }
-}
-
-fn run_buffered<R: Print + AllocGlobal, I: Read>(
-    rt: &R,
-    kinds: Kinds,
-    input: &mut I,
-) -> Result<(), RunFault> {
-    let Ok(mut output) = BufWriter::with_capacity(rt.alloc(), BUFFER, io::writer(rt)) else {
-        return Err(RunFault::NoMemory);
-    };
-    let done = run_script(rt.alloc(), input, &mut output, kinds);
-    if output.flush().is_err() {
-        return Err(RunFault::Output);
-    }
-    done
 }

@@ -60,12 +60,13 @@ MaySayNumber name rows (Some n) = SaysNumber name rows n
 abbrev pub MaySayText : Text → List Row → Option (Bor Text) → Type 0
 MaySayText name rows text = first_of name rows ≡ option_map (λ t. t.now) text
 
--- What a run shows, by its options: a trace where that is asked for and no kinds are named, else the lines of the kinds
--- that are named, all where none are.
+-- What a run shows, by its options: a trace where that is asked for, no kinds are named and no check is asked for, else
+-- the lines of the kinds that are named, all where none are.
 abbrev pub SaysShown : List Row → Shown → Type 0
 SaysShown rows (Shown.Kinds kinds) =
     SaysFlag (codes "trace") rows false × (kinds_asked (first_of (codes "show") rows) ≡ Some kinds.0)
-SaysShown rows Shown.Trace = SaysFlag (codes "trace") rows true × (first_of (codes "show") rows ≡ None)
+SaysShown rows Shown.Trace =
+    SaysFlag (codes "trace") rows true × (first_of (codes "show") rows ≡ None) × SaysFlag (codes "check") rows false
 
 -- two words that are the numbers of this area
 abbrev pub IsAreaOf : List Text → SlotArea → Type 0
@@ -84,8 +85,9 @@ abbrev pub AreTwoInputs : Text → Text → Type 0
 AreTwoInputs trace history = trace ≡ codes "-" → history ≡ codes "-" → ⊥
 
 -- what the options of `run` say
-pub record SaysRun (rows : List Row) (shown : Shown) (flush why : Bool) (file : Text) : Type 0 where
+pub record SaysRun (rows : List Row) (shown : Shown) (check flush why : Bool) (file : Text) : Type 0 where
   pub what : SaysShown rows shown
+  pub judges : SaysFlag (codes "check") rows check
   pub flushes : SaysFlag (codes "flush") rows flush
   pub reason : SaysFlag (codes "why") rows why
   pub reads : SaysText (codes "FILE") rows file
@@ -208,7 +210,8 @@ IsNoRace rows = (hosts workers slots rounds queues : ℕ) → SaysNumbers rows h
 
 -- what the options of a command of this name ask for
 abbrev pub AsksBy : Text → List Row → Asked → Type 0
-AsksBy name rows (Asked.Run shown flush why file) = (name ≡ codes "run") × SaysRun rows shown flush why file.now
+AsksBy name rows (Asked.Run shown check flush why file) =
+    (name ≡ codes "run") × SaysRun rows shown check flush why file.now
 AsksBy name rows (Asked.Check follow area quiet json why file) =
     (name ≡ codes "check") × SaysCheck rows follow area quiet json why file.now
 AsksBy name rows (Asked.Explain follow area json why file) =
@@ -270,10 +273,11 @@ IsOther name =
 abbrev pub IsNoFile : List Row → Type 0
 IsNoFile rows = first_of (codes "FILE") rows ≡ None
 
--- a trace is asked for and kinds of lines are named, or those are unknown or empty
+-- a trace is asked for and a check too, or kinds of lines are named; or those are unknown or empty
 abbrev pub IsNotShown : List Row → Type 0
 IsNotShown rows =
     (SaysFlag (codes "trace") rows true × (is_some (first_of (codes "show") rows) ≡ true))
+    ⊎ (SaysFlag (codes "trace") rows true × SaysFlag (codes "check") rows true)
     ⊎ (kinds_asked (first_of (codes "show") rows) ≡ None)
 
 -- words stand behind `--slots` that are the numbers of no area

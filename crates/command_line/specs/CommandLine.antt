@@ -53,8 +53,9 @@ argument_rule (NumberOr value number) name = default_rule name number.now
 -- the command `run` with its options
 abbrev pub run_app : App
 run_app =
-    with_rule (with_rule (with_rule (with_rule (with_rule (new_app (codes "run")) (text_rule (codes "show")))
-    (flag_rule (codes "trace"))) (flag_rule (codes "flush"))) (flag_rule (codes "why"))) (input_rule (codes "FILE"))
+    with_rule (with_rule (with_rule (with_rule (with_rule (with_rule (new_app (codes "run"))
+    (text_rule (codes "show"))) (flag_rule (codes "trace"))) (flag_rule (codes "check"))) (flag_rule (codes "flush")))
+    (flag_rule (codes "why"))) (input_rule (codes "FILE"))
 
 -- the command `check` with its options
 abbrev pub check_app : App

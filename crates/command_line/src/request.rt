@@ -37,9 +37,11 @@ pub enum Shown {
 /// failed; where `quiet` is true, nothing says how far it is; where `json` is true, an answer is a JSON object.
 #[derive(Drop)]
 pub enum Asked<'a> {
-    /// To run the script in this file; where it flushes, each line is sent as soon as it is made.
+    /// To run the script in this file; where it checks, each step is judged as it is made, and never where its trace is
+    /// shown; where it flushes, each line is sent as soon as it is made.
     Run {
         shown: Shown,
+        check: bool,
         flush: bool,
         why: bool,
         file: &'a str,

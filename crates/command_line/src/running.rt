@@ -18,6 +18,8 @@ const KINDS: &str = "Kinds of lines to show, joined by commas [default: all]";
 
 const TRACE: &str = "Print what hosts see, the lines of a trace, in place of a history's";
 
+const CHECK: &str = "Judge each step as it is made, and say the answer on standard error";
+
 const FLUSH: &str = "Send what each line prints as soon as it is made";
 
 const ABOUT_LINES: &str = "\
@@ -53,6 +55,7 @@ pub(crate) fn run_command<'a>(alloc: Global) -> Result<Command<'a>, AllocError>
         .after_help(ABOUT_LINES);
     let command = with(alloc, command, "show", Text("KINDS"), KINDS)?;
     let command = with(alloc, command, "trace", Flag, TRACE)?;
+    let command = with(alloc, command, "check", Flag, CHECK)?;
     let command = with(alloc, command, "flush", Flag, FLUSH)?;
     let command = with(alloc, command, "why", Flag, WHY)?;
     with(
@@ -70,6 +73,9 @@ fn shown_asked(alloc: Global, matches: &ArgMatches<'_>) -> Result<Shown, UsageFa
     ensures refuses { IfErr result (HasCause (IsNotShown (rows_of (found_of matches.now)))) }
 {
     let trace = flag_asked(matches, "trace");
+    if trace && flag_asked(matches, "check") {
+        return Err(text_of(alloc, "error: '--trace' and '--check' exclude each other"));
+    }
     let Some(text) = text_asked(matches, "show") else {
         if trace {
             return Ok(Shown::Trace);
@@ -97,6 +103,7 @@ pub(crate) fn run_asked<'a>(
     let file = text_needed(alloc, matches, "FILE", NO_FILE)?;
     Ok(Asked::Run {
         shown,
+        check: flag_asked(matches, "check"),
         flush: flag_asked(matches, "flush"),
         why: flag_asked(matches, "why"),
         file,

@@ -2,7 +2,7 @@
 
 use crate::failing::{FailingReader, FailingWriter};
 use crate::files::file_of;
-use casdisk_texts::{RunFault, check_text, follow_text, run_script};
+use casdisk_texts::{RunFault, check_text, follow_text, run_checked, run_script};
 use history::all_kinds;
 use std::alloc::Global;
 use std::io::ErrorKind;
@@ -13,8 +13,14 @@ use std::test::Fail;
 #[derive(Clone, Copy, PartialEq, Eq)]
 enum TextWork {
     Run,
+    RunChecked,
     Check,
     Follow,
+}
+
+/// Whether a script is run.
+fn is_run(work: TextWork) -> bool {
+    work == TextWork::Run || work == TextWork::RunChecked
 }
 
 /// A pair that wins, and a Read of what it wrote.
@@ -32,6 +38,7 @@ const UNMARKED: &str =
 /// Texts whose reading or writing fails at each call in turn.
 const ENDED: &[(TextWork, &str)] = &[
     (TextWork::Run, SCRIPT),
+    (TextWork::RunChecked, SCRIPT),
     (TextWork::Check, WRITE),
     (TextWork::Check, UNMARKED),
     (TextWork::Follow, WRITE),
@@ -92,6 +99,10 @@ fn answer_of(
             Ok(()) => Ok(true),
             Err(fault) => Err(fault),
         },
+        TextWork::RunChecked => match run_checked(alloc, reader, writer, all_kinds()) {
+            Ok(bad) => Ok(bad.is_none()),
+            Err(fault) => Err(fault),
+        },
         TextWork::Check => check_text(alloc, reader, writer),
         TextWork::Follow => follow_text(alloc, reader, writer),
     }
@@ -148,7 +159,7 @@ fn name_the_cause(
     let (taken, all) = (made.output.as_slice(), whole.output.as_slice());
     assert!(rt; all.starts_with(taken));
     assert!(rt; made.reader || made.writer || taken.len() == all.len());
-    assert!(rt; !made.reader || work == TextWork::Run || taken.is_empty());
+    assert!(rt; !made.reader || is_run(work) || taken.is_empty());
 }
 
 /// Makes it with these failures, and looks at what comes of it; whether nothing failed.
@@ -214,7 +225,7 @@ fn a_failed_call_ends_the_work(rt: HostRuntime) -> Result<(), Fail> {
 /// That each failure of both, by this kind of error, is named.
 fn name_causes(rt: &impl Abort, alloc: Global, work: TextWork, text: &[u8], kind: ErrorKind) {
     let whole = whole(alloc, work, text);
-    let write_width = if work == TextWork::Run { 40 } else { 2 };
+    let write_width = if is_run(work) { 40 } else { 2 };
     for read in 0..14u64 {
         for write in 0..20u64 {
             let calls = FailingCalls {
