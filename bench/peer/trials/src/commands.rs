@@ -7,10 +7,11 @@ use std::fs;
 
 /// Command lines, without the program's name. Words in capitals name files (`give` makes them, but for `FOUND` and `REFUTING`,
 /// which the program may write); behind `<` stands what standard input has.
-pub const ASKED: [&str; 71] = [
+pub const ASKED: [&str; 72] = [
     "run SCRIPT",
     "run --why SCRIPT",
     "run --flush SCRIPT",
+    "run --check SCRIPT",
     "run --show publish,reap SCRIPT",
     "run --trace SCRIPT",
     "run --trace --why SCRIPT",
