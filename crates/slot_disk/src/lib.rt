@@ -1,6 +1,6 @@
 //! A disk in memory with slots and a host of each completion queue, for programs on one thread that keep locks and say
-//! who holds them. Nothing is asked of its callers: no call lets two hosts have one slot, or a host write there
-//! otherwise.
+//! who holds them. Nothing is asked of its callers. Where all hosts have met, each holds by its block the slots that it
+//! has, and nobody else is believed of them.
 #![tactic(auto)]
 
 mod host_calls;
