@@ -1,12 +1,14 @@
 //! The program vandrexu-lock: what flock(1) is for one machine, for machines that share a disk over NVMe/TCP. A lock is a
 //! slot (docs/SLOTS.md): one block of the disk, claimed and released by fused Compare and Write alone. The slot host is the
 //! library's, which is proved; nothing else here is.
+mod serial;
 mod signals;
 mod words;
 
+use serial::serial;
 use std::os::unix::process::ExitStatusExt;
 use std::process::{Command, ExitCode};
-use std::time::{Duration, Instant, SystemTime};
+use std::time::{Duration, Instant};
 use std::{io, thread};
 use vandrexu::{Name, RemoteHost, RemoteSlotHost};
 use vandrexu_initiator::{BLOCK, Carrier, Dial, Error, Holder, Host, Result, Status, block_of};
@@ -26,6 +28,9 @@ const PAUSE: Duration = Duration::from_millis(20);
 
 /// How long it waits for a queue where all are in use, at the least: the target may not have seen yet that a host left.
 const QUEUE: Duration = Duration::from_secs(1);
+
+/// How long a release is made again where the target has no memory for it.
+const RELEASE: Duration = Duration::from_secs(60);
 
 fn main() -> ExitCode {
     let words: Vec<String> = std::env::args().skip(1).collect();
@@ -47,6 +52,11 @@ fn main() -> ExitCode {
             ExitCode::from(status_of(&what))
         }
     }
+}
+
+/// Whether a target had no memory for what it was asked. It did nothing then, and may do it later.
+fn is_starved<T>(told: &Result<T>) -> bool {
+    matches!(told, Err(Error::Refused(it, _)) if it.is(Status::INTERNAL))
 }
 
 /// The exit status of a failure.
@@ -138,22 +148,20 @@ fn status(mut slots: Slots, words: &Words) -> Result<u8> {
     Ok(0)
 }
 
-/// A serial that this host didn't come to before: the clock's, in which no two claims of one process are alike.
-fn serial() -> u64 {
-    let now = SystemTime::now().duration_since(SystemTime::UNIX_EPOCH).unwrap_or_default();
-    (now.as_micros() as u64) << 12 | u64::from(std::process::id()) & 0xFFF
-}
-
 fn claim(mut slots: Slots, words: &Words, wait: Duration) -> Result<u8> {
     let began = Instant::now();
-    while !slots.carrier.claim(words.slot)? {
+    loop {
+        let got = slots.carrier.claim(words.slot);
+        if !(is_starved(&got) && began.elapsed() < wait) && got? {
+            break;
+        }
         if began.elapsed() >= wait {
             let holder = slots.carrier.holder(words.slot)?;
             eprintln!("vandrexu-lock: slot {} isn't free; now: {}", words.slot, told(holder));
             return Ok(NOT_GOT);
         }
         thread::sleep(PAUSE);
-        // (so each claim has a serial of the clock, which no other run with this host's number has)
+        // (so each claim has a serial that no other run with this host's number has)
         slots = slots.renewed(words)?;
     }
     hold(slots, words)
@@ -199,6 +207,10 @@ fn hold(slots: Slots, words: &Words) -> Result<u8> {
 fn release(mut slots: Slots, words: &Words) -> Result<bool> {
     match slots.carrier.release(words.slot) {
         Err(Error::Connection(_) | Error::Ended(..)) => {}
+        told if is_starved(&told) => {
+            let name = slots.name;
+            return release_again(slots, words, name);
+        }
         told => return told,
     }
     // (the release may have been served before the connection was lost)
@@ -215,7 +227,14 @@ fn release_again(slots: Slots, words: &Words, name: Name) -> Result<bool> {
     let block = words.area.block(words.slot).unwrap_or_default();
     let Slots { _host, carrier, .. } = slots;
     let mut pairs = carrier.with(|queue| RemoteHost::new(words.host, queue, 0))?;
-    pairs.compare_and_write(block, &block_of(name), &[0; BLOCK])
+    let began = Instant::now();
+    loop {
+        let told = pairs.compare_and_write(block, &block_of(name), &[0; BLOCK]);
+        if !is_starved(&told) || began.elapsed() >= RELEASE {
+            return told;
+        }
+        thread::sleep(PAUSE);
+    }
 }
 
 #[cfg(test)]

@@ -79,8 +79,8 @@ impl Connection {
                 logs::Asked { subsystem, address, is_discovery }.answer(command).map(|it| (0, it))
             }
             opcode::SET_FEATURES if command.dword(10) == QUEUES && !is_discovery => {
-                let wanted = (command.dword(11) & 0xFFFF).min(command.dword(11) >> 16);
-                let given = hosts.keep_queues(number, wanted.min(0xFFFE) as u16 + 1, options.config.pairs);
+                let wanted = features::queues_wanted(it, command.dword(11))?;
+                let given = hosts.keep_queues(number, wanted, options.config.pairs);
                 // (0 says one: where there is none its Connect is refused)
                 let told = u64::from(given.max(1)) - 1;
                 Ok((told << 16 | told, vec![]))

@@ -30,7 +30,7 @@ impl Engine {
                 match group[0].verdict {
                     Some(status) => self.answer_here(at, &group, status),
                     None if self.transport_only => self.answer_here(at, &group, Status::SUCCESS),
-                    None if is_over => self.answer_here(at, &group, Status::INTERNAL.no_retry()),
+                    None if is_over => self.answer_here(at, &group, Status::INTERNAL),
                     None => published.push(group),
                 }
             }
@@ -70,8 +70,8 @@ impl Engine {
         for capsule in groups.iter_mut().flatten() {
             self.translate(capsule);
         }
-        let pair = at as u16 + 1;
-        self.trace.publish(pair, groups.iter().flatten().map(|it| (&it.command, &it.data[..])))?;
+        let asked = groups.iter().flatten().map(|it| (&it.command, &it.data[..]));
+        let line = self.trace.publication(at as u16 + 1, asked);
         let mut now = vec![];
         for group in groups {
             let planned = self.planner.plan(group);
@@ -80,7 +80,10 @@ impl Engine {
                 self.tell_early(at, capsule);
             }
         }
-        self.give(at, now)?;
+        // (what the controller had no memory for it never had)
+        if self.give(at, now)? {
+            self.trace.publish(line)?;
+        }
         Ok(())
     }
 
@@ -99,10 +102,10 @@ impl Engine {
         }
     }
 
-    /// Gives the controller these, or answers them where it has no memory.
-    pub(crate) fn give(&mut self, at: usize, capsules: Vec<(Capsule, Plan)>) -> Step<()> {
+    /// Gives the controller these, or answers them where it has no memory, which is false.
+    pub(crate) fn give(&mut self, at: usize, capsules: Vec<(Capsule, Plan)>) -> Step<bool> {
         if capsules.is_empty() {
-            return Ok(());
+            return Ok(true);
         }
         if self.planner.wants_the_past() {
             capsules.iter().for_each(|(it, _)| self.keep_past(&it.command));
@@ -112,8 +115,8 @@ impl Engine {
             Ok(()) => {}
             Err(Error::NoMemory) => {
                 let all: Vec<Capsule> = capsules.into_iter().map(|(it, _)| it).collect();
-                self.answer_here(at, &all, Status::INTERNAL.no_retry());
-                return Ok(());
+                self.answer_here(at, &all, Status::INTERNAL);
+                return Ok(false);
             }
             Err(other) => return Err(other),
         }
@@ -125,7 +128,7 @@ impl Engine {
                 queue.note(Sent { command, reads: reads(&command), plan }, command.cid());
             }
         }
-        Ok(())
+        Ok(true)
     }
 
     /// Tells a Write as done, and gives it to the controller later.

@@ -30,6 +30,17 @@ impl Reply {
     }
 }
 
+/// The statuses of which a later try may rid a command: one whose other half failed, one whose data was spoilt, one whose CID
+/// another had, and one for which there was no memory.
+const MAY_PASS: [Status; 6] = [
+    Status::SUCCESS,
+    Status::FAILED_FUSED,
+    Status::MISSING_FUSED,
+    Status::TRANSPORT,
+    Status::CID_CONFLICT,
+    Status::INTERNAL,
+];
+
 type Done = Result<(), Box<dyn std::error::Error>>;
 
 impl Engine {
@@ -53,7 +64,7 @@ impl Engine {
         let (size, pair) = (self.config.sq_size, &mut self.pairs[at]);
         let taken = (completion.sqhd() + size - pair.head) % size;
         pair.head = completion.sqhd();
-        let is_conflict = completion.status().code() == (0, 3);
+        let is_conflict = completion.status().is(Status::CID_CONFLICT);
         let Some(sent) = pair.queue.as_mut().and_then(|it| it.taken(completion.cid(), is_conflict)) else {
             return Err(format!("a completion of no command: {completion:?}").into());
         };
@@ -155,9 +166,8 @@ impl Engine {
             queue.fetched += u64::from(reply.taken);
             let mut it = queue.on_the_wire(&reply.completion, reply.phase, reply.skew);
             let status = it.status();
-            // (the same command would fail in the same way, but for one whose other half failed)
-            let may_pass = [Status::SUCCESS, Status::FAILED_FUSED, Status::MISSING_FUSED, Status::TRANSPORT];
-            if !may_pass.iter().any(|it| status.is(*it)) {
+            // (the same command would fail in the same way)
+            if !MAY_PASS.iter().any(|it| status.is(*it)) {
                 it = it.with(status.no_retry());
             }
             if let Some(out) = &queue.out {

@@ -97,8 +97,7 @@ impl Connection {
     /// Serves it until it ends.
     pub(crate) fn serve(&mut self) -> End {
         loop {
-            let came = self.reader.take();
-            let done = match came {
+            let done = match self.reader.take_at_once() {
                 Ok(Some(pdu)) => self.take(&pdu),
                 Ok(None) => self.look(),
                 Err(Fault::Closed | Fault::Failed(_)) => Err(End::Left),

@@ -168,8 +168,8 @@ impl Engine {
             if data.iter().any(|it| *it != 0) {
                 let entry = Entry::write(0, slba, &data).blocks((data.len() / BLOCK) as u16);
                 let command = vandrexu_wire::Command(entry.bytes);
-                self.trace.publish(1, [(&command, &data[..])].into_iter())?;
                 self.disk.publish(1, &[entry])?;
+                self.trace.publish(self.trace.publication(1, [(&command, &data[..])].into_iter()))?;
                 self.disk.fetch(1)?;
                 self.disk.settle()?;
                 let reaped = self.disk.reap(1)?;

@@ -45,6 +45,17 @@ pub(crate) fn set(it: &mut Controller, command: &Command) -> Told {
     Ok((0, vec![]))
 }
 
+/// How many queue pairs a host asks for, which it does before it makes one.
+pub(crate) fn queues_wanted(it: &Controller, value: u32) -> Result<u16, Status> {
+    let (submission, completion) = (value as u16, (value >> 16) as u16);
+    if it.has_queues() {
+        return Err(Status::SEQUENCE);
+    }
+    // (each 0's based; the number of 65,536 can't be asked for)
+    submission.max(completion).checked_add(1).ok_or(Status::INVALID_FIELD)?;
+    Ok(submission.min(completion) + 1)
+}
+
 /// Get Features.
 pub(crate) fn get(it: &Controller, command: &Command) -> Told {
     let (feature, select) = (command.dword(10) & 0xFF, command.dword(10) >> 8 & 7);

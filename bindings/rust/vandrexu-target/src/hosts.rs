@@ -32,6 +32,11 @@ impl Controller {
     pub(crate) fn is_enabled(&self) -> bool {
         self.configuration & 1 == 1
     }
+
+    /// Whether it has an I/O queue.
+    pub(crate) fn has_queues(&self) -> bool {
+        !self.open.is_empty()
+    }
 }
 
 /// A connection.

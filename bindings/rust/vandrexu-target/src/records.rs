@@ -54,18 +54,24 @@ impl Trace {
         Ok(Trace { out })
     }
 
-    /// Entries that are published together.
-    pub(crate) fn publish<'a>(
-        &mut self,
+    /// The line of entries that are published together; none, where no trace is written.
+    pub(crate) fn publication<'a>(
+        &self,
         pair: u16,
         entries: impl Iterator<Item = (&'a Command, &'a [u8])>,
-    ) -> io::Result<()> {
-        let Some(out) = &mut self.out else { return Ok(()) };
+    ) -> Option<String> {
+        self.out.as_ref()?;
         let mut line = format!("publish {pair}");
         for (at, (command, data)) in entries.enumerate() {
             line.push_str(if at == 0 { " " } else { " + " });
             entry_text(command, data, &mut line);
         }
+        Some(line)
+    }
+
+    /// Writes such a line.
+    pub(crate) fn publish(&mut self, line: Option<String>) -> io::Result<()> {
+        let (Some(out), Some(line)) = (&mut self.out, line) else { return Ok(()) };
         writeln!(out, "{line}")
     }
 

@@ -20,8 +20,12 @@ fn identify_tells_what_the_configuration_says() {
     assert_eq!(u64_at(&namespace, 0), 4096);
     assert_eq!((at(34), at(38), at(40), at(42), namespace[130]), (3, 1, 15, 2, 9));
     assert_eq!(code(&host.identify(0x00, 2).unwrap()), (0, 0x0B));
-    assert_eq!(u32_at(&host.identify(0x02, 0).unwrap().data, 0), 1);
-    assert_eq!(u32_at(&host.identify(0x02, 1).unwrap().data, 0), 0);
+    // (active ones, those of the NVM command set, allocated ones, and those of both)
+    for form in [0x02, 0x07, 0x10, 0x1A] {
+        let first = [0, 1].map(|above| u32_at(&host.identify(form, above).unwrap().data, 0));
+        assert_eq!(first, [1, 0], "form {form:02X}");
+        assert_eq!(code(&host.identify(form, u32::MAX).unwrap()), (0, 0x0B), "form {form:02X}");
+    }
     for (form, namespace) in [(0x03, 1), (0x05, 1), (0x06, 0), (0x08, 1), (0x11, 1), (0x12, 1), (0x13, 0), (0x1C, 0)] {
         assert_eq!(code(&host.identify(form, namespace).unwrap()), DONE, "form {form:02X}");
     }
@@ -65,6 +69,54 @@ fn features_are_set_and_told() {
     assert_eq!(call(opcode::GET_FEATURES, 0x81, 1).0, DONE);
     assert_eq!(call(opcode::SET_FEATURES, 0x07, 3 << 16 | 2), (DONE, 2 << 16 | 2));
     assert_eq!(call(opcode::GET_FEATURES, 0x07, 0), (DONE, 2 << 16 | 2));
+    for none in [0xFFFF, 0xFFFF_0000, u32::MAX] {
+        assert_eq!(call(opcode::SET_FEATURES, 0x07, none).0, (0, 2), "{none:08X}");
+    }
+    assert_eq!(call(opcode::GET_FEATURES, 0x07, 0), (DONE, 2 << 16 | 2), "it is as it was");
+    host.add_queue(1).unwrap();
+    assert!(matches!(host.ask_for_queues(3), Err(Error::Refused(it, _)) if it.code() == (0, 0x0C)), "one is there");
+}
+
+#[test]
+fn each_admin_connection_has_a_controller_of_its_own() {
+    let target = start(options());
+    let mut all: Vec<Host> = ["one", "two", "two"].map(|it| Host::connect(&dial(&target).named(it), 1).unwrap()).into();
+    let numbers: Vec<u16> = all.iter().map(|it| it.controller).collect();
+    assert!(numbers[0] < numbers[1] && numbers[1] < numbers[2], "{numbers:?}");
+    let listed = |it: &mut Host| {
+        let list = it.identify(0x13, 0).unwrap().data;
+        (1..=usize::from(u16_at(&list, 0))).map(|at| u16_at(&list, 2 * at)).collect::<Vec<_>>()
+    };
+    for host in &mut all {
+        assert_eq!(u16_at(&host.identify(0x01, 0).unwrap().data, 78), host.controller);
+        assert_eq!(listed(host), numbers);
+    }
+    // what one host sets the others don't have
+    let events = Command::new(opcode::SET_FEATURES).with(10, 0x0B).with(11, 0x100);
+    assert_eq!(code(&all[1].admin.call(events, &[], 0).unwrap()), DONE);
+    let get = Command::new(opcode::GET_FEATURES).with(10, 0x0B);
+    let told: Vec<u64> = all.iter_mut().map(|it| it.admin.call(get, &[], 0).unwrap().completion.result()).collect();
+    assert_eq!(told, [0, 0x100, 0]);
+    all.remove(1);
+    until("it left", || target.connections() == 4);
+    assert_eq!(listed(&mut all[0]), [numbers[0], numbers[2]]);
+}
+
+#[test]
+fn each_opcode_is_answered_and_no_connection_ends() {
+    let target = start(options());
+    let mut host = host(&target, 1);
+    for opcode in 0..=u8::MAX {
+        // (an Asynchronous Event Request is held)
+        if opcode != opcode::ASYNC_EVENT {
+            host.admin.call(Command::new(opcode), &[], 4096).unwrap();
+        }
+        let is_outgoing = matches!(opcode, opcode::WRITE | opcode::COMPARE);
+        let (data, room) = if is_outgoing { (&[0; 512][..], 0) } else { (&[][..], 4096) };
+        host.queues[0].call(Command::new(opcode).with(1, 1), data, room).unwrap();
+    }
+    assert_eq!(code(&host.identify(0x01, 0).unwrap()), DONE);
+    assert_eq!(code(&host.queues[0].call(Command::blocks(opcode::FLUSH, 0, 0), &[], 0).unwrap()), DONE);
 }
 
 #[test]

@@ -62,6 +62,59 @@ fn without_keep_alive_a_host_loses_its_queues() {
     until("its connections end", || target.connections() == 0);
 }
 
+/// A target that lets a host take a second for what it has begun, and a host with a queue there.
+fn impatient() -> (Target, Host) {
+    let target = start(Options { patience: Duration::from_secs(1), ..options() });
+    let host = Host::connect(&Dial { slots: 64, ..dial(&target) }, 1).unwrap();
+    (target, host)
+}
+
+#[test]
+fn a_host_that_sends_no_rest_of_a_pdu_is_left_also_where_it_sends_a_byte_at_a_time() {
+    let (target, mut host) = impatient();
+    let queue = &mut host.queues[0];
+    let capsule = queue.format().command(&Command::blocks(opcode::WRITE, 3, 16).0, &blocks(1, 16));
+    queue.send_bytes(&capsule[..100]).unwrap();
+    assert!(queue.receive().is_err());
+    host.queues.clear();
+    until("it left", || target.connections() == 1);
+    host.add_queue(1).unwrap();
+    let (began, queue) = (Instant::now(), &mut host.queues[0]);
+    // (of 8,264 bytes one each 20 milliseconds)
+    let sent = capsule.iter().take_while(|it| {
+        std::thread::sleep(Duration::from_millis(20));
+        queue.send_bytes(&[**it]).is_ok()
+    });
+    let sent = sent.count();
+    assert!(began.elapsed() >= Duration::from_secs(1) && sent < capsule.len() / 2, "{sent} bytes were taken");
+    until("it is left", || target.connections() == 1);
+}
+
+#[test]
+fn a_host_that_sends_no_data_that_was_asked_for_is_left() {
+    let (target, mut host) = impatient();
+    let (began, queue) = (Instant::now(), &mut host.queues[0]);
+    // (by R2T, of which it hears, and sends nothing)
+    let mut write = Command::blocks(opcode::WRITE, 3, 2).with(8, 1024);
+    (write.0[1], write.0[39]) = (0x40, 0x5A);
+    queue.send_as_it_is(write, &[], &[]).unwrap();
+    queue.receive_tag().unwrap();
+    assert!(queue.receive().is_err() && began.elapsed() >= Duration::from_secs(1));
+    until("it is left", || target.connections() == 1);
+}
+
+#[test]
+fn a_host_that_takes_nothing_is_left() {
+    let (target, mut host) = impatient();
+    // (15 MiB, which is more than the system keeps of what wasn't taken)
+    for _ in 0..120 {
+        // (the target may have left it already)
+        let _ = host.queues[0].send(Command::blocks(opcode::READ, 0, 256), &[], 256 * 512);
+    }
+    until("it is left", || target.connections() == 1);
+    assert_eq!(code(&host.identify(0x01, 0).unwrap()), DONE);
+}
+
 #[test]
 fn a_host_that_reads_nothing_holds_no_other_up() {
     // (so long that the other's calls would fail first)

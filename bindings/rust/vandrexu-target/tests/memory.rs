@@ -70,3 +70,33 @@ fn what_a_target_took_before_its_limit_is_answered_behind_it() {
     drop(ballast);
     until("it takes commands again", || code(&queue.call(read, &[], 256 * BLOCK).unwrap()) == DONE);
 }
+
+#[test]
+fn where_the_library_has_no_memory_what_it_took_is_answered_once_it_has() {
+    let _alone = alone();
+    let folder = Folder::new();
+    let trace = folder.file("trace");
+    let target = start(Options { trace: Some(trace.clone()), ..options() });
+    let mut host = Host::connect(&Dial { slots: 64, ..dial(&target) }, 1).unwrap();
+    let queue = &mut host.queues[0];
+    vandrexu::heap_limit(vandrexu::heap_used() + (192 << 10));
+    // a Read needs more memory once it was taken, a Write before
+    let (write, data) = (Command::blocks(opcode::WRITE, 0, 16), blocks(1, 16));
+    for _ in 0..8 {
+        queue.send(Command::blocks(opcode::READ, 0, 256), &[], 256 * BLOCK).unwrap();
+    }
+    for _ in 0..30 {
+        queue.send(write, &data, 0).unwrap();
+    }
+    std::thread::sleep(std::time::Duration::from_millis(300));
+    vandrexu::heap_limit(usize::MAX);
+    let answers: Vec<_> = (0..38).map(|_| queue.receive().unwrap()).collect();
+    let of = |due| answers.iter().filter(|it| code(it) == due && !it.status().is_final()).count();
+    assert_eq!(of(DONE) + of((0, 6)), 38);
+    assert!(of((0, 6)) > 0, "nothing was refused");
+    assert_eq!(code(&queue.call(write, &data, 0).unwrap()), DONE);
+    drop(host);
+    drop(target);
+    // (of what was refused it says nothing)
+    assert!(common::is_explained(&trace));
+}

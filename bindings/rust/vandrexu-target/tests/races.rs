@@ -2,7 +2,8 @@
 //! serves a pair as two commands is found by the log alone.
 mod common;
 use common::{Folder, blocks, dial, give_way, is_explained, is_legal, options, start};
-use std::path::PathBuf;
+use std::collections::{HashMap, HashSet};
+use std::path::{Path, PathBuf};
 use std::sync::Barrier;
 use std::sync::atomic::{AtomicU64, Ordering};
 use vandrexu_initiator::{BLOCK, Command, Dial, Host, Trace, opcode, u64_at};
@@ -87,6 +88,64 @@ fn no_lock_is_held_twice_and_all_is_explained() {
         assert!(is_explained(&own), "the target's trace, seed {seed:?}");
         assert!(is_explained(&seen), "the hosts' trace, seed {seed:?}");
     }
+}
+
+/// How often a pair of one ticket took effect within a unit that another wrote, and between two units of one.
+fn pairs_between(history: &Path) -> (u32, u32) {
+    let text = std::fs::read_to_string(history).expect("a history");
+    // of each Write that goes on: how many blocks are left of its unit, and whether a pair came since its last step
+    let (mut pairs, mut open, mut within, mut between) = (HashSet::new(), HashMap::new(), 0, 0);
+    for line in text.lines() {
+        match line.split(' ').collect::<Vec<_>>()[..] {
+            ["fetch", _, ticket, "2", "ok"] => {
+                pairs.insert(ticket);
+            }
+            ["grant", ticket, _, _, blocks, "w"] if !pairs.contains(ticket) => {
+                let came = open.insert(ticket, (blocks.parse::<u32>().expect("a number"), false));
+                between += u32::from(came.is_some_and(|it| it.1));
+            }
+            ["block", ticket, _, _, _, effect] => {
+                if let Some((left, came)) = open.get_mut(ticket) {
+                    within += u32::from(*came && *left > 0);
+                    (*left, *came) = (*left - 1, false);
+                } else if effect == "*" {
+                    open.values_mut().for_each(|it| it.1 = true);
+                }
+            }
+            _ => {}
+        }
+    }
+    (within, between)
+}
+
+#[test]
+fn pairs_of_one_host_take_effect_between_the_steps_of_anothers_units() {
+    let folder = Folder::new();
+    let history = folder.file("history");
+    let target = start(Options { seed: Some(7), history: Some(history.clone()), ..options() });
+    let [mut writer, mut locker] =
+        ["nqn.writer", "nqn.locker"].map(|it| Host::connect(&dial(&target).named(it), 1).unwrap());
+    let (data, free) = (blocks(9, 16), blocks(0, 1));
+    for _ in 0..20 {
+        // (two units each)
+        let write = |at: u64| (Command::blocks(opcode::WRITE, 64 + 16 * at, 16), &data[..]);
+        let pair = |at: u64| {
+            let of = |opcode, fuse| (Command::blocks(opcode, at, 1).fused(fuse), &free[..]);
+            [of(opcode::COMPARE, 1), of(opcode::WRITE, 2)]
+        };
+        writer.queues[0].send_all(&(0..8).map(write).collect::<Vec<_>>(), 0).unwrap();
+        locker.queues[0].send_all(&(0..8).flat_map(pair).collect::<Vec<_>>(), 0).unwrap();
+        for queue in [&mut writer.queues[0], &mut locker.queues[0]] {
+            while queue.in_flight() > 0 {
+                assert!(queue.receive().unwrap().is_success());
+            }
+        }
+    }
+    drop((writer, locker));
+    drop(target);
+    is_legal(&history);
+    let (within, between) = pairs_between(&history);
+    assert!(within > 0 && between > 0, "{within} within a unit, {between} between two");
 }
 
 #[test]

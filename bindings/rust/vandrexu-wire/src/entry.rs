@@ -57,6 +57,8 @@ impl Status {
     pub const INVALID_OPCODE: Status = Status(0x01);
     /// Invalid Field in Command.
     pub const INVALID_FIELD: Status = Status(0x02);
+    /// Command ID Conflict.
+    pub const CID_CONFLICT: Status = Status(0x03);
     /// Internal Error.
     pub const INTERNAL: Status = Status(0x06);
     /// Command Aborted due to Failed Fused Command.

@@ -62,6 +62,17 @@ impl<R: Read> Reader<R> {
         }
     }
 
+    /// The next PDU, where it is here or one read brings the rest of it; so whoever sends a byte at a time holds nobody up.
+    ///
+    /// # Errors
+    /// As those of [`take`](Reader::take).
+    pub fn take_at_once(&mut self) -> Result<Option<Pdu>, Fault> {
+        match self.buffered()? {
+            None if self.fill()? => self.buffered(),
+            here => Ok(here),
+        }
+    }
+
     /// Whether a part of a PDU waits for its rest.
     pub fn is_within(&self) -> bool {
         self.start < self.end

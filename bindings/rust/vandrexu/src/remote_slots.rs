@@ -38,7 +38,7 @@ unsafe impl Send for RemoteSlotHost {}
 impl RemoteSlotHost {
     /// A host of this number on this submission queue of the controller, which claims `count` slots from block `first`
     /// on. The serials of its names are above `serial`: a number that a host had before, in a process that ended, is given
-    /// with a serial that none of its names had, as the clock's.
+    /// with a serial that none of its names had, as one of the clock and of chance.
     ///
     /// # Errors
     /// The first of [`Error::BadArea`] of no slot, or of one behind block 65,535, [`Error::BadNumber`] of 0 and
