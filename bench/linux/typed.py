@@ -49,12 +49,12 @@ def give(guest, folder, scripts):
     with tarfile.open(fileobj=out, mode="w") as archive:
         for program in ("vandrexu-target", "vandrexu-lock"):
             path = folder / BUILT / program
-            archive.add(path, f"{PLACE}/{BUILT}/{program}")
+            archive.add(path, f"{PLACE}/{BUILT}/{program}".lstrip("/"))
             told = subprocess.run(["ldd", path], stdout=subprocess.PIPE, text=True, check=True).stdout
             for library in re.findall(r"(/\S+) \(0x", told):
-                archive.add(Path(library).resolve(), library)
+                archive.add(Path(library).resolve(), library.lstrip("/"))
         for name, text in scripts.items():
-            info = tarfile.TarInfo(name)
+            info = tarfile.TarInfo(name.lstrip("/"))
             info.mode, info.size = 0o755, len(text)
             archive.addfile(info, io.BytesIO(text.encode()))
     port = listener(lambda it: it.sendall(out.getvalue()))

@@ -30,8 +30,8 @@ impl Reply {
     }
 }
 
-/// The statuses of which a later try may rid a command: one whose other half failed, one whose data was spoilt, one whose CID
-/// another had, and one for which there was no memory.
+/// The statuses without Do Not Retry: success, and those of a command that may succeed later, since its other half failed, its data
+/// was spoilt on the way, another command had its CID, or there was no memory.
 const MAY_PASS: [Status; 6] = [
     Status::SUCCESS,
     Status::FAILED_FUSED,

@@ -60,6 +60,26 @@ fn what_is_made_is_read_in_pieces_of_any_size() {
 }
 
 #[test]
+fn whoever_waits_for_one_read_at_a_time_is_told_between_two() {
+    let format = Format::default();
+    let bytes = format.command(&Command::blocks(opcode::WRITE, 3, 1).0, &[5; 512]);
+    let length = bytes.len();
+    let mut reader = reader([bytes.clone(), bytes].concat(), 100, Side::Target, format);
+    let (mut early, mut found) = (0, vec![]);
+    while found.len() < 2 {
+        match reader.take_at_once().expect("a PDU") {
+            Some(pdu) => found.push(pdu),
+            None => early += 1,
+        }
+    }
+    // each piece is a read, and so is the timeout before it, but of the first two; a PDU came by two of them
+    let pieces = (2 * length).div_ceil(100);
+    assert_eq!(early, pieces + (pieces - 2) - 2);
+    assert!(found.iter().all(|it| it.data() == [5; 512]));
+    assert!(matches!(reader.take_at_once(), Err(Fault::Closed)));
+}
+
+#[test]
 fn responses_are_read_by_the_host() {
     let completion = Completion::new(7, Status::COMPARE_FAILURE.no_retry(), 5).of_queue(3, 9);
     for format in formats() {
