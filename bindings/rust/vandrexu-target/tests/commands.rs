@@ -70,9 +70,13 @@ fn hints_are_cleared_unless_the_target_is_strict() {
         let target = start(Options { strict, ..options() });
         let mut host = host(&target, 1);
         for (dword, bits) in hints {
-            let command = Command::blocks(opcode::READ, 0, 2).with(dword, bits);
-            let answer = host.queues[0].call(command, &[], 2 * BLOCK).unwrap();
-            assert_eq!(code(&answer), if strict { (0, 2) } else { DONE }, "dword {dword}: {bits:X}");
+            for opcode in [opcode::READ, opcode::WRITE, opcode::COMPARE, opcode::WRITE_ZEROES] {
+                let command = Command::blocks(opcode, 0, 2).with(dword, bits);
+                let data = if matches!(opcode, opcode::WRITE | opcode::COMPARE) { blocks(0, 2) } else { vec![] };
+                let answer = host.queues[0].call(command, &data, 2 * BLOCK).unwrap();
+                let due = if strict { (0, 2) } else { DONE };
+                assert_eq!(code(&answer), due, "opcode {opcode}, dword {dword}: {bits:X}");
+            }
         }
     }
 }

@@ -19,11 +19,18 @@ fn hosts_that_are_not_named_are_refused() {
 
 #[test]
 fn connections_are_limited_and_free_again() {
-    let target = start(Options { connections: 3, ..options() });
+    let target = start(Options { connections: 3, patience: Duration::from_secs(1000), ..options() });
     let first = host(&target, 2);
     let second = Host::connect(&dial(&target), 0);
     assert!(matches!(second, Err(Error::Refused(it, _)) if it.is(Status::CONNECT_BUSY) && !it.is_final()));
-    drop(first);
+    until("it left", || target.connections() == 3);
+    // sixteen more than there may be could still be answered, and the next is closed
+    let crowd = [(); 16].map(|()| TcpStream::connect(target.address()).unwrap());
+    until("they are there", || target.connections() == 19);
+    let mut last = TcpStream::connect(target.address()).unwrap();
+    last.set_read_timeout(Some(Duration::from_secs(120))).unwrap();
+    assert_eq!(last.read(&mut [0]).unwrap(), 0);
+    drop((first, crowd));
     until("they are free", || target.connections() == 0);
     host(&target, 2);
 }
@@ -156,12 +163,22 @@ fn words_of_the_command_line_are_read_or_told() {
     let options = of(&["--blocks", "99", "--seed", "4", "--strict", "--fault", "torn-unit:3", "--allow", "a"]).unwrap();
     assert_eq!((options.config.blocks, options.seed, options.strict), (99, Some(4), true));
     assert_eq!(of(&["--listen", "127.0.0.1:7"]).unwrap().listen.port(), 7);
-    assert!(options.listen.ip().is_loopback());
+    let line = "config 8 1 1 0 0 2 4 4 8";
+    assert_eq!(of(&["--config", line]).unwrap().config.to_string(), line);
+    assert_eq!(of(&["--config", line, "--blocks", "9"]).unwrap().config.blocks, 9);
+    let options = of(&["--nqn", "n", "--connections", "3", "--memory", "7", "--patience", "2", "--naive"]).unwrap();
+    assert_eq!((&options.subsystem[..], options.connections, options.memory), ("n", 3, Some(7)));
+    assert_eq!((options.patience, options.naive), (Duration::from_secs(2), true));
+    assert!(Options::default().listen.ip().is_loopback());
     let no_room =
         Options { config: vandrexu_target::Config { sq_size: 2, ..common::options().config }, ..common::options() };
     assert!(Target::start(no_room).is_err_and(|it| it.contains("no room for a pair")));
     for wrong in [
         &["--blocks", "0"][..],
+        &["--blocks", "65537"],
+        &["--config", "config 8 1 1"],
+        &["--config", "config 8 1 1 0 0 17 4 4 8"],
+        &["--nqn", ""],
         &["--seed", "x"],
         &["--what", "1"],
         &["--listen"],
