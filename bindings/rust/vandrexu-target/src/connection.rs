@@ -47,6 +47,8 @@ pub(crate) struct Connection {
     fetched: u64,
     began: Instant,
     heard: Instant,
+    /// Since when a part of a PDU waits for its rest.
+    part: Option<Instant>,
 }
 
 /// Why a connection ends.
@@ -90,8 +92,8 @@ impl Connection {
     pub(crate) fn new(shared: Arc<Shared>, stream: TcpStream, id: u64, out: Outlet, admitted: Admitted) -> Connection {
         let reader = Reader::new(stream, Side::Target, MOST);
         let (ring, began, heard) = (Ring::default(), Instant::now(), Instant::now());
-        let (role, slots, fetched) = (Role::New, 32, 0);
-        Connection { shared, id, out, role, slots, admitted, reader, ring, fetched, began, heard }
+        let (role, slots, fetched, part) = (Role::New, 32, 0, None);
+        Connection { shared, id, out, role, slots, admitted, reader, ring, fetched, began, heard, part }
     }
 
     /// Serves it until it ends.
@@ -113,7 +115,7 @@ impl Connection {
     }
 
     fn take(&mut self, pdu: &Pdu) -> Result<(), End> {
-        self.heard = Instant::now();
+        (self.heard, self.part) = (Instant::now(), None);
         let wrong = |why| End::Wrong(why, pdu.header().to_vec());
         match (pdu.kind(), self.role) {
             (kind::IC_REQ, Role::New) => self.initialize(pdu).map_err(wrong)?,
@@ -176,7 +178,7 @@ impl Connection {
         if self.shared.is_ending() {
             return Err(End::Ending);
         }
-        if self.reader.is_within() && silent > patience {
+        if self.reader.is_within() && self.part.get_or_insert_with(Instant::now).elapsed() > patience {
             return Err(End::Late("rest of a PDU"));
         }
         if self.ring.wants_data() && silent > patience {

@@ -98,6 +98,22 @@ fn a_host_that_sends_no_rest_of_a_pdu_is_left_also_where_it_sends_a_byte_at_a_ti
 }
 
 #[test]
+fn a_host_that_was_silent_for_long_may_take_its_time_again() {
+    let (_target, mut host) = impatient();
+    let queue = &mut host.queues[0];
+    let flush = queue.format().command(&Command::blocks(opcode::FLUSH, 0, 0).0, &[]);
+    for _ in 0..2 {
+        std::thread::sleep(Duration::from_millis(1500));
+        for piece in flush.chunks(40) {
+            queue.send_bytes(piece).unwrap();
+            std::thread::sleep(Duration::from_millis(50));
+        }
+        // (the initiator doesn't know the command)
+        assert!(matches!(queue.receive(), Err(Error::Target("a completion of no command"))));
+    }
+}
+
+#[test]
 fn a_host_that_sends_no_data_that_was_asked_for_is_left() {
     let (target, mut host) = impatient();
     let (began, queue) = (Instant::now(), &mut host.queues[0]);
