@@ -32,9 +32,10 @@ fn a_release_is_made_again_until_the_target_has_memory_for_it_and_a_claim_for_as
     }
     let heavy = ballast();
     // (the target asks the system once in a while)
-    let refused = (0..100).map(|_| scene.ran(&["--slot", "1", "--host", "6", "--", "true"])).find(|it| it.0 != 0);
-    let (status, _, told) = refused.expect("it is refused");
-    assert!(status == 3 && told.contains("status 0/06"), "{status}: {told}");
+    let refused = (0..100).map(|_| scene.ran(&["status"])).find(|it| it.0 != 0).expect("it is refused");
+    assert!(refused.0 == 3 && refused.2.contains("status 0/06"), "{refused:?}");
+    let now = scene.ran(&["--slot", "1", "--host", "6", "--", "true"]);
+    assert!(now.0 == 3 && now.2.contains("status 0/06"), "{now:?}");
     fs::write(&go, "").expect("a file");
     let words = ["--slot", "1", "--host", "6", "--wait", "120", "--", "true"];
     let mut waits = scene.program(&words).stderr(Stdio::null()).spawn().expect("the program");
