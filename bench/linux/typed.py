@@ -13,7 +13,9 @@ from threading import Lock, Thread
 BUILT = "bindings/rust/target/release"
 # Where the folder of the release lies in a guest, and what is on the way there to its programs.
 PLACE = "/release"
-LISTENS = "until grep -q ':1144 .* 0A' /proc/net/tcp; do sleep 1; done"
+LISTENS = "i=0; until grep -q ':1144 .* 0A' /proc/net/tcp || [ $i -gt 120 ]; do sleep 1; i=$((i+1)); done"
+MOUNTS, LOCKS = "From a release to a mounted file system", "A lock between two machines"
+FINDS = "See it found out: a target that is wrong on purpose"
 
 
 def shown(folder, heading):
@@ -28,6 +30,11 @@ def typed(folder, *lines):
     ours = {name: value for name, value in os.environ.items() if name not in ("VANDREXU_LIB_DIR", "CARGO_TARGET_DIR")}
     done = subprocess.run(["bash", "-c", "\n".join(lines)], cwd=folder, env=ours, stdout=subprocess.PIPE, stderr=subprocess.STDOUT, text=True, check=False)
     return done.stdout
+
+
+def built(folder):
+    """Types the command that builds the programs: what it says."""
+    return typed(folder, shown(folder, MOUNTS)[0][0])
 
 
 def listener(serve):
@@ -63,8 +70,8 @@ def give(guest, folder, scripts):
 
 def to_a_mount(guest, folder, disk):
     """The commands from a release to a mounted file system; the first, which builds, is typed where Rust is."""
-    ((build, serve, connect, make, mount),) = shown(folder, "From a release to a mounted file system")
-    said = typed(folder, build) + give(guest, folder, {})
+    ((_, serve, connect, make, mount),) = shown(folder, MOUNTS)
+    said = built(folder) + give(guest, folder, {})
     waits = f"i=0; while [ ! -b {disk} -a $i -lt 60 ]; do sleep 1; i=$((i+1)); done"
     lines = [f"cd {PLACE}", serve, LISTENS, connect, waits, make, mount, "grep ext4 /proc/mounts; nvme list"]
     lines += ["echo kept > /mnt/file; umount /mnt; echo 3 > /proc/sys/vm/drop_caches", mount, "cat /mnt/file; cd /; umount /mnt"]
@@ -89,8 +96,8 @@ class Counter:
 
 def between_machines(two, folder, boot):
     """The commands of a lock: a machine that has the disk, and two hosts, of which one dies while it holds a slot."""
-    ((serve, *claims), (status, take_over)) = shown(folder, "A lock between two machines")
-    said = typed(folder, shown(folder, "From a release to a mounted file system")[0][0])
+    ((serve, *claims), (status, take_over)) = shown(folder, LOCKS)
+    said = built(folder)
     disk, one, counter = boot(4420), boot(None), Counter()
     say = f"echo $1 | nc 10.0.2.2 {counter.port}"
     make = f"#!/bin/sh\nset -- in; {say}; [ ! -e /tmp/hangs ] || sleep 1000; sleep 3; set -- out; {say}\n"
@@ -115,6 +122,6 @@ def between_machines(two, folder, boot):
 
 def found_out(folder):
     """The commands with which a target that serves a pair as two commands is found out, and the same with one that doesn't."""
-    serve, race, observe = shown(folder, "See it found out: a target that is wrong on purpose")[0]
-    naive = typed(folder, serve, LISTENS, race, observe, "kill $!; wait")
+    serve, race, observe = shown(folder, FINDS)[0]
+    naive = built(folder) + typed(folder, serve, LISTENS, race, observe, "kill $!; wait")
     return naive + typed(folder, serve.replace(" --naive", ""), LISTENS, race, observe, "kill $!; wait; rm seen")
