@@ -2,8 +2,8 @@
  *
  * Link libvandrexu_c.a. What vandrexu.h says of every call, of handles, and of the numbers that calls answer is so here
  * too. A disk is a controller that many handles share: its own, by which it is served, and one for each host. Each host
- * has a submission queue, and one call at a time, which somebody polls. Handles of one disk may be used by unlike threads
- * at once, each by one at a time.
+ * has a submission queue, and many calls in flight, which somebody polls by their numbers. Handles of one disk may be used
+ * by unlike threads at once, each by one at a time.
  *
  * No two hosts of a disk have one number, or submission queues of one completion queue. The second is refused, also
  * where the first was freed. So a disk has at most `cqs` hosts, and no host uses another one's queues. What a call is
@@ -23,7 +23,7 @@ enum vandrexu_host_status {
     /* why a host's call isn't started, or wasn't served */
     VANDREXU_CALL_LENGTH = 41,    /* no block, or data that isn't whole blocks, or two data of unlike lengths */
     VANDREXU_CALL_TOO_LONG = 42,  /* more than 256 blocks, or of a pair more than `acwu` and one */
-    VANDREXU_CALL_NO_ROOM = 43,   /* no room in the submission queue */
+    VANDREXU_CALL_NO_ROOM = 43,   /* too few CIDs are free, or no room in the submission queue */
     VANDREXU_CALL_FAILED = 44,    /* a completion with another status than those that a reply tells */
     VANDREXU_CALL_BUSY = 45,      /* another handle of the disk had the controller */
     VANDREXU_CALL_NO_MEMORY = 46, /* memory was refused */
@@ -32,8 +32,8 @@ enum vandrexu_host_status {
     VANDREXU_UNFINISHED = 113,  /* what was fetched before isn't finished */
     VANDREXU_NO_HOST = 114,     /* as many hosts were made as the disk was made for */
     VANDREXU_BAD_NUMBER = 115,  /* a host has no number 0 */
-    VANDREXU_IN_CALL = 116,     /* the host has a call */
-    VANDREXU_NO_CALL = 117,     /* the host has no call */
+    VANDREXU_IN_CALL = 116,     /* the slot host has a call */
+    VANDREXU_NO_CALL = 117,     /* the slot host has no call, or no call of the host has this number */
     VANDREXU_USED_NUMBER = 124, /* a host of the disk had the number before, also one that was freed */
     VANDREXU_USED_QUEUE = 125   /* one had the completion queue of this submission queue before */
 };
@@ -97,20 +97,23 @@ uint32_t vandrexu_disk_medium(vandrexu_disk *disk, uint64_t lba, uint8_t *out);
  * VANDREXU_USED_QUEUE; or 11, or VANDREXU_NO_HOST. */
 uint32_t vandrexu_host_new(vandrexu_disk *disk, uint32_t number, uint16_t queue, vandrexu_host *host);
 
-/* Frees it, and leaves the handle zeros; a call that isn't answered is forgotten, and its pass isn't given back. Nothing
+/* Frees it, and leaves the handle zeros; calls that aren't answered are forgotten, and its pass isn't given back. Nothing
  * is done to one that owns nothing. */
 void vandrexu_host_free(vandrexu_host *host);
 
-/* Each begins a call: its entries are published. The first that holds of VANDREXU_IN_CALL, 41, 42 and 47, else 43, 45
- * or 46, and then nothing was. Data is 512 bytes a block, and is copied. Slots are read and compared as any block. */
-uint32_t vandrexu_host_read(vandrexu_host *host, uint64_t lba, uint32_t blocks);
-uint32_t vandrexu_host_write_zeroes(vandrexu_host *host, uint64_t lba, uint32_t blocks);
-uint32_t vandrexu_host_write(vandrexu_host *host, uint64_t lba, const uint8_t *data, size_t length);
-uint32_t vandrexu_host_compare(vandrexu_host *host, uint64_t lba, const uint8_t *data, size_t length);
+/* Each begins a call: 0, its entries are published, and *call is its number, by which it is polled. 46 where a growth is
+ * refused for one call more, else the first that holds of 41, 42 and 47, else 43, 45 or 46, and then nothing was published.
+ * A host has up to 64 commands in flight, of which a pair is two. Data is 512 bytes a block, and is copied. Slots are read
+ * and compared as any block. */
+uint32_t vandrexu_host_read(vandrexu_host *host, uint64_t lba, uint32_t blocks, uint32_t *call);
+uint32_t vandrexu_host_write_zeroes(vandrexu_host *host, uint64_t lba, uint32_t blocks, uint32_t *call);
+uint32_t vandrexu_host_write(vandrexu_host *host, uint64_t lba, const uint8_t *data, size_t length, uint32_t *call);
+uint32_t vandrexu_host_compare(vandrexu_host *host, uint64_t lba, const uint8_t *data, size_t length, uint32_t *call);
 
 /* Writes the desired data where the blocks hold the expected data, as one fused pair. */
 uint32_t vandrexu_host_compare_and_write(vandrexu_host *host, uint64_t lba, const uint8_t *expected,
-                                         size_t expected_length, const uint8_t *desired, size_t desired_length);
+                                         size_t expected_length, const uint8_t *desired, size_t desired_length,
+                                         uint32_t *call);
 
 /* What became of a call. */
 enum vandrexu_reply_kind {
@@ -130,10 +133,19 @@ typedef struct vandrexu_reply {
     uint8_t zeros[2];
 } vandrexu_reply;
 
-/* Reaps at most one completion of the host's completion queue: 0, and what became of the call, which is over but where it
- * is pending; 44, where it failed, and it is over; 45 and 46, and it goes on; VANDREXU_NO_CALL. Where it isn't over, and
- * where there is none, the reply says pending. */
-uint32_t vandrexu_host_poll(vandrexu_host *host, vandrexu_reply *reply);
+/* Reaps at most one completion of the host's completion queue, of whichever call: 0, and what became of this call, whose
+ * number is free then but where it is pending; 44, where it failed, and it is over; 45 and 46, and it goes on;
+ * VANDREXU_NO_CALL, where no call has the number. Where it isn't over, and where there is none, the reply says pending.
+ * Calls are polled in any order. Where calls were given up, one of them has its turn first, and reaps one more. */
+uint32_t vandrexu_host_poll(vandrexu_host *host, uint32_t call, vandrexu_reply *reply);
+
+/* Gives up a call, whose number is free then: what it asked for is done or not, and nobody is told. Its CIDs stay in use
+ * until its completions came, and polls, of whichever number, have reaped them. A host that restarts gives up all its
+ * calls, and so may do that for ever. VANDREXU_NO_CALL; 11, and the call goes on. */
+uint32_t vandrexu_host_give_up(vandrexu_host *host, uint32_t call);
+
+/* How many calls the host waits for: those that have a number, and those that were given up and keep their CIDs. */
+uint32_t vandrexu_host_waiting(vandrexu_host *host, size_t *calls, size_t *given_up);
 
 /* Copies what the host read last: *needed bytes; VANDREXU_TOO_SMALL. */
 uint32_t vandrexu_host_data(vandrexu_host *host, uint8_t *out, size_t room, size_t *needed);

@@ -63,10 +63,13 @@ uint32_t vandrexu_remote_compare_and_write(vandrexu_remote *remote, uint64_t lba
                                            size_t expected_length, const uint8_t *desired, size_t desired_length,
                                            uint32_t *call);
 
-/* Takes at most one of the completions that were brought, of whichever call: 0, and what became of this call, whose number
- * is free then but where it is pending; 44, where it failed, and it is over; VANDREXU_NO_CALL, where no call has the
- * number, and the reply says pending. Calls are polled in any order. */
+/* Takes at most one of the completions that were brought, of whichever call, and else is as vandrexu_host_poll; but for 45
+ * and 46, which it never answers. */
 uint32_t vandrexu_remote_poll(vandrexu_remote *remote, uint32_t call, vandrexu_reply *reply);
+
+/* As those of a host of a disk. */
+uint32_t vandrexu_remote_give_up(vandrexu_remote *remote, uint32_t call);
+uint32_t vandrexu_remote_waiting(vandrexu_remote *remote, size_t *calls, size_t *given_up);
 
 /* Copies what was read last: *needed bytes; VANDREXU_TOO_SMALL. */
 uint32_t vandrexu_remote_data(vandrexu_remote *remote, uint8_t *out, size_t room, size_t *needed);

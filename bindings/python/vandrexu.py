@@ -442,12 +442,14 @@ _ARGUMENTS = {
     "vandrexu_disk_medium": [_Disk, c_uint64, _Bytes],
     "vandrexu_host_new": [_Disk, c_uint32, c_uint16, _Host],
     "vandrexu_host_free": [_Host],
-    "vandrexu_host_read": [_Host, c_uint64, c_uint32],
-    "vandrexu_host_write_zeroes": [_Host, c_uint64, c_uint32],
-    "vandrexu_host_write": [_Host, c_uint64, c_char_p, c_size_t],
-    "vandrexu_host_compare": [_Host, c_uint64, c_char_p, c_size_t],
-    "vandrexu_host_compare_and_write": [_Host, c_uint64, c_char_p, c_size_t, c_char_p, c_size_t],
-    "vandrexu_host_poll": [_Host, POINTER(RawReply)],
+    "vandrexu_host_read": [_Host, c_uint64, c_uint32, _Number],
+    "vandrexu_host_write_zeroes": [_Host, c_uint64, c_uint32, _Number],
+    "vandrexu_host_write": [_Host, c_uint64, c_char_p, c_size_t, _Number],
+    "vandrexu_host_compare": [_Host, c_uint64, c_char_p, c_size_t, _Number],
+    "vandrexu_host_compare_and_write": [_Host, c_uint64, c_char_p, c_size_t, c_char_p, c_size_t, _Number],
+    "vandrexu_host_poll": [_Host, c_uint32, POINTER(RawReply)],
+    "vandrexu_host_give_up": [_Host, c_uint32],
+    "vandrexu_host_waiting": [_Host, POINTER(c_size_t), POINTER(c_size_t)],
     "vandrexu_host_data": [_Host, _Bytes, c_size_t, POINTER(c_size_t)],
     "vandrexu_slot_disk_new": [POINTER(RawConfig), c_uint16, c_uint64, c_uint32, _Disk],
     "vandrexu_slot_host_new": [_Disk, c_uint32, c_uint16, _SlotHost],
@@ -471,6 +473,8 @@ _ARGUMENTS = {
     "vandrexu_remote_compare": [_Remote, c_uint64, c_char_p, c_size_t, _Number],
     "vandrexu_remote_compare_and_write": [_Remote, c_uint64, c_char_p, c_size_t, c_char_p, c_size_t, _Number],
     "vandrexu_remote_poll": [_Remote, c_uint32, POINTER(RawReply)],
+    "vandrexu_remote_give_up": [_Remote, c_uint32],
+    "vandrexu_remote_waiting": [_Remote, POINTER(c_size_t), POINTER(c_size_t)],
     "vandrexu_remote_data": [_Remote, _Bytes, c_size_t, POINTER(c_size_t)],
     "vandrexu_remote_outgoing": [_Remote, POINTER(RawOutgoing), _Bytes, c_size_t],
     "vandrexu_remote_incoming": [_Remote, c_char_p, c_char_p, c_size_t],
@@ -846,9 +850,9 @@ class _Looked(_Handle):
         """The lines of the trace (docs/OBSERVING.md): the configuration's line, and what hosts saw of each step.
 
         >>> with Disk(Config(), 1) as disk, disk.host(1, 1) as host:
-        ...     host.read(3)
+        ...     call = host.read(3)
         ...     disk.serve(1)
-        ...     kind = host.poll().kind
+        ...     kind = host.poll(call).kind
         ...     [line.split(" ")[0] for line in disk.trace()], list(disk.trace())[2][-3:]
         (['config', 'publish', 'reap'], ' 00')
         """
@@ -1097,7 +1101,7 @@ class SlotChecker(_Handle):
     of others to a Checker, too.
 
     >>> with Disk(Config(), 1) as disk, disk.host(1, 1) as host, SlotChecker(Config(), 3, 2) as slots:
-    ...     host.write(4, b"\\xA1" * 512)
+    ...     call = host.write(4, b"\\xA1" * 512)
     ...     slots.why()
     ...     try:
     ...         for line in disk.history(1):
@@ -1143,11 +1147,11 @@ class Disk(_Looked):
     queues share a completion queue, and only one of these gets a host.
 
     >>> with Disk(Config(pairs=2), 2) as disk, disk.host(1, 1) as one, disk.host(2, 2) as two:
-    ...     one.compare_and_write(3, bytes(512), b"\\xA1" * 512)
-    ...     two.compare_and_write(3, bytes(512), b"\\xB2" * 512)
+    ...     of_one = one.compare_and_write(3, bytes(512), b"\\xA1" * 512)
+    ...     of_two = two.compare_and_write(3, bytes(512), b"\\xB2" * 512)
     ...     disk.serve(2)
     ...     disk.serve(1)
-    ...     [two.poll().kind.name for _ in "12"], [one.poll().kind.name for _ in "12"]
+    ...     [two.poll(of_two).kind.name for _ in "12"], [one.poll(of_one).kind.name for _ in "12"]
     (['PENDING', 'SWAPPED'], ['PENDING', 'DIFFERS'])
     """
     _new, _free, _raw_type = "vandrexu_disk_new", "vandrexu_disk_free", RawDisk
@@ -1199,7 +1203,7 @@ class Disk(_Looked):
         """Makes the next step of what is kept, and says whether there was one.
 
         >>> with Disk(Config(), 1) as disk, disk.host(1, 1) as host:
-        ...     host.read(3, 1)
+        ...     call = host.read(3, 1)
         ...     disk.fetch(1)
         ...     [disk.task() for _ in range(4)]
         [True, True, True, False]
@@ -1217,10 +1221,10 @@ class Disk(_Looked):
         used again. Nothing that a host or the disk is answered changes by it.
 
         >>> with Disk(Config(), 1) as disk, disk.host(1, 1) as host:
-        ...     host.read(3, 1)
+        ...     call = host.read(3, 1)
         ...     disk.serve(1)
         ...     disk.forget()
-        ...     host.poll().data == bytes(512)
+        ...     host.poll(call).data == bytes(512)
         True
         """
         self._ask("vandrexu_disk_forget", _fits(place, 64))
@@ -1261,6 +1265,75 @@ def _reply(number: int, reply: RawReply, copy, handle: object) -> Reply:
     return Reply(kind, bytes(data)[:needed.value])
 
 
+class Waiting(NamedTuple):
+    """How many calls a host waits for: those that have a number, and those that were given up and keep their CIDs."""
+    calls: int
+    given_up: int
+
+
+class _Calls(_Handle):
+    """A host with up to 64 commands in flight, of which a pair is two. Each call has a number, by which it is polled."""
+    _kind: str
+
+    def _begin(self, name: str, *arguments: object) -> int:
+        """Begins a call, and returns its number."""
+        call = c_uint32()
+        self._ask(f"{self._kind}_{name}", *arguments, byref(call))
+        return call.value
+
+    def read(self, lba: int, blocks: int = 1) -> int:
+        """Begins to read so many blocks, and returns the call's number."""
+        return self._begin("read", _fits(lba, 64), _fits(blocks, 32))
+
+    def write_zeroes(self, lba: int, blocks: int = 1) -> int:
+        """Begins to write zeros to so many blocks, and returns the call's number."""
+        return self._begin("write_zeroes", _fits(lba, 64), _fits(blocks, 32))
+
+    def write(self, lba: int, data: bytes) -> int:
+        """Begins to write this data, 512 bytes a block, and returns the call's number."""
+        data = bytes(data)
+        return self._begin("write", _fits(lba, 64), data, len(data))
+
+    def compare(self, lba: int, data: bytes) -> int:
+        """Begins to compare this data, 512 bytes a block, with what is there, and returns the call's number."""
+        data = bytes(data)
+        return self._begin("compare", _fits(lba, 64), data, len(data))
+
+    def compare_and_write(self, lba: int, expected: bytes, desired: bytes) -> int:
+        """Begins to write the desired data where the blocks hold the expected data, as one fused pair, and returns the
+        call's number."""
+        old, new = bytes(expected), bytes(desired)
+        return self._begin("compare_and_write", _fits(lba, 64), old, len(old), new, len(new))
+
+    def poll(self, call: int) -> Reply:
+        """Takes at most one completion, of whichever call, and says what became of this call, which is over but where
+        it is pending. Calls are polled in any order. Where calls were given up, one of them has its turn first, and
+        takes one more."""
+        reply = RawReply()
+        with self._turn:
+            handle = byref(self._raw)
+            number = getattr(library, f"{self._kind}_poll")(handle, _fits(call, 32), byref(reply))
+            return _reply(number, reply, getattr(library, f"{self._kind}_data"), handle)
+
+    def give_up(self, call: int) -> None:
+        """Gives up a call, whose number is free then: what it asked for is done or not, and nobody is told. Its CIDs
+        stay in use until its completions came, and polls have taken them. Where NoMemory is raised the call goes on."""
+        self._ask(f"{self._kind}_give_up", _fits(call, 32))
+
+    def waiting(self) -> Waiting:
+        """How many calls the host waits for.
+
+        >>> with RemoteHost(1, 1) as host:
+        ...     one, two = host.read(0), host.read(1)
+        ...     host.give_up(one)
+        ...     host.waiting()
+        Waiting(calls=1, given_up=1)
+        """
+        calls, given_up = c_size_t(), c_size_t()
+        self._ask(f"{self._kind}_waiting", byref(calls), byref(given_up))
+        return Waiting(calls.value, given_up.value)
+
+
 class _HostHandle(_Handle):
     """A host of a Disk, of either kind."""
 
@@ -1271,60 +1344,28 @@ class _HostHandle(_Handle):
             self._hold(byref(disk._raw), number, queue)
 
 
-class Host(_HostHandle):
-    """A host of a Disk, with a driver, and one call at a time. It is freed where its `with` ends, by `close`, or where
-    it is forgotten.
+class Host(_HostHandle, _Calls):
+    """A host of a Disk, with a driver, and up to 64 commands in flight, of which a pair is two. It is freed where its
+    `with` ends, by `close`, or where it is forgotten.
 
-    A call is begun, and then polled until it is over. A call that would write to a slot of the disk isn't begun.
+    A call is begun, and polled by its number until it is over; then the next one may have the number. A call that would
+    write to a slot of the disk isn't begun.
 
     >>> with Disk(Config(), 1) as disk, disk.host(1, 1) as host:
-    ...     host.write(3, b"\\xA1" * 1024)
-    ...     host.poll()
+    ...     write, zeroes = host.write(3, b"\\xA1" * 1024), host.write_zeroes(3, 1)
+    ...     host.poll(write)
     ...     disk.serve(1)
-    ...     host.poll()
-    ...     host.write_zeroes(3, 1)
     ...     disk.serve(1)
-    ...     host.poll()
-    ...     host.read(3, 2)
+    ...     [host.poll(zeroes).kind.name for _ in "12"], host.poll(write).kind.name
+    ...     read = host.read(3, 2)
     ...     disk.serve(1)
-    ...     host.poll().data == bytes(512) + b"\\xA1" * 512
+    ...     host.poll(read).data == bytes(512) + b"\\xA1" * 512
     Reply(kind=<ReplyKind.PENDING: 1>, data=b'', status=None)
-    Reply(kind=<ReplyKind.WRITTEN: 3>, data=b'', status=None)
-    Reply(kind=<ReplyKind.WRITTEN: 3>, data=b'', status=None)
+    (['PENDING', 'WRITTEN'], 'WRITTEN')
     True
     """
     _new, _free, _raw_type = "vandrexu_host_new", "vandrexu_host_free", RawHost
-
-    def read(self, lba: int, blocks: int = 1) -> None:
-        """Begins to read so many blocks."""
-        self._ask("vandrexu_host_read", _fits(lba, 64), _fits(blocks, 32))
-
-    def write_zeroes(self, lba: int, blocks: int = 1) -> None:
-        """Begins to write zeros to so many blocks."""
-        self._ask("vandrexu_host_write_zeroes", _fits(lba, 64), _fits(blocks, 32))
-
-    def write(self, lba: int, data: bytes) -> None:
-        """Begins to write this data, 512 bytes a block."""
-        data = bytes(data)
-        self._ask("vandrexu_host_write", _fits(lba, 64), data, len(data))
-
-    def compare(self, lba: int, data: bytes) -> None:
-        """Begins to compare this data, 512 bytes a block, with what is there."""
-        data = bytes(data)
-        self._ask("vandrexu_host_compare", _fits(lba, 64), data, len(data))
-
-    def compare_and_write(self, lba: int, expected: bytes, desired: bytes) -> None:
-        """Begins to write the desired data where the blocks hold the expected data, as one fused pair."""
-        old, new = bytes(expected), bytes(desired)
-        self._ask("vandrexu_host_compare_and_write", _fits(lba, 64), old, len(old), new, len(new))
-
-    def poll(self) -> Reply:
-        """Reaps at most one completion, and says what became of the call, which is over but where it is pending."""
-        reply = RawReply()
-        with self._turn:
-            handle = byref(self._raw)
-            number = library.vandrexu_host_poll(handle, byref(reply))
-            return _reply(number, reply, library.vandrexu_host_data, handle)
+    _kind = "vandrexu_host"
 
 
 class SlotReplyKind(IntEnum):
@@ -1483,7 +1524,7 @@ class _Carried(_Handle):
         return count.value
 
 
-class RemoteHost(_Carried):
+class RemoteHost(_Carried, _Calls):
     """A host of a controller that is somewhere else, with a driver, and up to 64 commands in flight, of which a pair is
     two. It is freed where its `with` ends, by `close`, or where it is forgotten.
 
@@ -1523,45 +1564,6 @@ class RemoteHost(_Carried):
         first, count = slots
         self.number, self.queue = number, queue
         self._hold(_fits(number, 32), _fits(queue, 16), _fits(acwu, 16), _fits(first, 64), _fits(count, 32))
-
-    def _begin(self, name: str, *arguments: object) -> int:
-        """Begins a call, and returns its number."""
-        call = c_uint32()
-        self._ask(f"vandrexu_remote_{name}", *arguments, byref(call))
-        return call.value
-
-    def read(self, lba: int, blocks: int = 1) -> int:
-        """Begins to read so many blocks, and returns the call's number."""
-        return self._begin("read", _fits(lba, 64), _fits(blocks, 32))
-
-    def write_zeroes(self, lba: int, blocks: int = 1) -> int:
-        """Begins to write zeros to so many blocks, and returns the call's number."""
-        return self._begin("write_zeroes", _fits(lba, 64), _fits(blocks, 32))
-
-    def write(self, lba: int, data: bytes) -> int:
-        """Begins to write this data, 512 bytes a block, and returns the call's number."""
-        data = bytes(data)
-        return self._begin("write", _fits(lba, 64), data, len(data))
-
-    def compare(self, lba: int, data: bytes) -> int:
-        """Begins to compare this data, 512 bytes a block, with what is there, and returns the call's number."""
-        data = bytes(data)
-        return self._begin("compare", _fits(lba, 64), data, len(data))
-
-    def compare_and_write(self, lba: int, expected: bytes, desired: bytes) -> int:
-        """Begins to write the desired data where the blocks hold the expected data, as one fused pair, and returns the
-        call's number."""
-        old, new = bytes(expected), bytes(desired)
-        return self._begin("compare_and_write", _fits(lba, 64), old, len(old), new, len(new))
-
-    def poll(self, call: int) -> Reply:
-        """Takes at most one of the completions that were brought, of whichever call, and says what became of this call,
-        which is over but where it is pending. Calls are polled in any order."""
-        reply = RawReply()
-        with self._turn:
-            handle = byref(self._raw)
-            number = library.vandrexu_remote_poll(handle, _fits(call, 32), byref(reply))
-            return _reply(number, reply, library.vandrexu_remote_data, handle)
 
 
 class RemoteSlotHost(_Carried, _SlotCalls):

@@ -31,14 +31,22 @@ static void fill(uint8_t *block, uint8_t with)
 
 #ifndef REFUSES
 /* Polls until the call is over, and wants this of it. */
-static void over(vandrexu_host *host, uint32_t kind)
+static void over(vandrexu_host *host, uint32_t call, uint32_t kind)
 {
     vandrexu_reply reply;
     do
-        WANT(vandrexu_host_poll(host, &reply) == VANDREXU_DONE);
+        WANT(vandrexu_host_poll(host, call, &reply) == VANDREXU_DONE);
     while (reply.kind == VANDREXU_REPLY_PENDING);
     WANT(reply.kind == kind && reply.sct == 0 && reply.sc == 0);
-    WANT(vandrexu_host_poll(host, &reply) == VANDREXU_NO_CALL);
+    WANT(vandrexu_host_poll(host, call, &reply) == VANDREXU_NO_CALL && reply.kind == VANDREXU_REPLY_PENDING);
+}
+
+/* Wants the host to wait for so many calls that have a number, and so many that were given up. */
+static void waits(vandrexu_host *host, size_t calls, size_t given_up)
+{
+    size_t numbered = 77, others = 77;
+    WANT(vandrexu_host_waiting(host, &numbered, &others) == VANDREXU_DONE);
+    WANT(numbered == calls && others == given_up);
 }
 
 static void serve(vandrexu_disk *disk, uint16_t queue)
@@ -53,20 +61,24 @@ static void nothing(void)
     vandrexu_host host = VANDREXU_HOST_NONE;
     vandrexu_reply reply = {9, 9, 9, {9, 9}};
     uint8_t out[1] = {9};
-    size_t needed = 7;
+    size_t needed = 7, calls = 7, given_up = 7;
+    uint32_t call = 7;
     WANT(vandrexu_disk_serve(&disk, 1) == VANDREXU_NO_HANDLE);
     WANT(vandrexu_disk_fetch(&disk, 1) == VANDREXU_NO_HANDLE);
     WANT(vandrexu_disk_task(&disk) == VANDREXU_NO_HANDLE);
     WANT(vandrexu_disk_forget(&disk, 1) == VANDREXU_NO_HANDLE);
     WANT(vandrexu_host_new(&disk, 1, 1, &host) == VANDREXU_NO_HANDLE);
     WANT(vandrexu_host_new(&disk, 0, 0, &host) == VANDREXU_NO_HANDLE);
-    WANT(vandrexu_host_read(&host, 0, 1) == VANDREXU_NO_HANDLE);
-    WANT(vandrexu_host_write(&host, 0, zeros, 512) == VANDREXU_NO_HANDLE);
-    WANT(vandrexu_host_write_zeroes(&host, 0, 1) == VANDREXU_NO_HANDLE);
-    WANT(vandrexu_host_compare(&host, 0, zeros, 512) == VANDREXU_NO_HANDLE);
-    WANT(vandrexu_host_compare_and_write(&host, 0, zeros, 512, zeros, 512) == VANDREXU_NO_HANDLE);
-    WANT(vandrexu_host_poll(&host, &reply) == VANDREXU_NO_HANDLE && reply.kind == 9 && reply.sc == 9);
+    WANT(vandrexu_host_read(&host, 0, 1, &call) == VANDREXU_NO_HANDLE);
+    WANT(vandrexu_host_write(&host, 0, zeros, 512, &call) == VANDREXU_NO_HANDLE);
+    WANT(vandrexu_host_write_zeroes(&host, 0, 1, &call) == VANDREXU_NO_HANDLE);
+    WANT(vandrexu_host_compare(&host, 0, zeros, 512, &call) == VANDREXU_NO_HANDLE);
+    WANT(vandrexu_host_compare_and_write(&host, 0, zeros, 512, zeros, 512, &call) == VANDREXU_NO_HANDLE);
+    WANT(vandrexu_host_poll(&host, 0, &reply) == VANDREXU_NO_HANDLE && reply.kind == 9 && reply.sc == 9);
+    WANT(vandrexu_host_give_up(&host, 0) == VANDREXU_NO_HANDLE);
+    WANT(vandrexu_host_waiting(&host, &calls, &given_up) == VANDREXU_NO_HANDLE);
     WANT(vandrexu_host_data(&host, out, 1, &needed) == VANDREXU_NO_HANDLE && out[0] == 9);
+    WANT(call == 7 && calls == 7 && given_up == 7);
     vandrexu_disk_free(&disk);
     vandrexu_host_free(&host);
     WANT(disk.at == NULL && disk.live == 0 && host.at == NULL && host.live == 0);
@@ -111,11 +123,12 @@ static void used(void)
     const vandrexu_config shared = {8, 1, 1, 0, 0, 4, 4, 4, 8, 2};
     vandrexu_disk disk = VANDREXU_DISK_NONE;
     vandrexu_host one = VANDREXU_HOST_NONE, two = VANDREXU_HOST_NONE;
+    uint32_t call;
     WANT(vandrexu_disk_new(&shared, 2, &disk) == VANDREXU_DONE);
     WANT(vandrexu_host_new(&disk, UINT32_MAX, 3, &one) == VANDREXU_DONE);
-    WANT(vandrexu_host_write(&one, 0, zeros, 512) == VANDREXU_DONE);
+    WANT(vandrexu_host_write(&one, 0, zeros, 512, &call) == VANDREXU_DONE);
     serve(&disk, 3);
-    over(&one, VANDREXU_REPLY_WRITTEN);
+    over(&one, call, VANDREXU_REPLY_WRITTEN);
     for (int freed = 0; freed < 2; freed++) {
         for (uint16_t queue = 1; queue <= 4; queue++)
             WANT(vandrexu_host_new(&disk, UINT32_MAX, queue, &two) == VANDREXU_USED_NUMBER);
@@ -125,9 +138,9 @@ static void used(void)
     }
     /* what was refused has used no pass, and no number */
     WANT(vandrexu_host_new(&disk, 1, 4, &two) == VANDREXU_DONE);
-    WANT(vandrexu_host_write(&two, 0, zeros, 512) == VANDREXU_DONE);
+    WANT(vandrexu_host_write(&two, 0, zeros, 512, &call) == VANDREXU_DONE);
     serve(&disk, 4);
-    over(&two, VANDREXU_REPLY_WRITTEN);
+    over(&two, call, VANDREXU_REPLY_WRITTEN);
     WANT(vandrexu_host_new(&disk, 2, 2, &one) == VANDREXU_USED_QUEUE && one.live == 0);
     vandrexu_host_free(&two);
     vandrexu_disk_free(&disk);
@@ -141,67 +154,63 @@ static void swaps(void)
     vandrexu_reply reply;
     uint8_t a[1024], b[512], got[1024];
     size_t needed = 7;
+    uint32_t call, other;
     memset(a, 0xA1, sizeof a);
     fill(b, 0xB2);
     WANT(vandrexu_disk_new(&config, 2, &disk) == VANDREXU_DONE);
     WANT(vandrexu_host_new(&disk, 1, 1, &one) == VANDREXU_DONE);
     WANT(vandrexu_host_new(&disk, 2, 2, &two) == VANDREXU_DONE);
-    WANT(vandrexu_host_poll(&one, &reply) == VANDREXU_NO_CALL);
+    WANT(vandrexu_host_poll(&one, 0, &reply) == VANDREXU_NO_CALL && reply.kind == VANDREXU_REPLY_PENDING);
     WANT(vandrexu_host_data(&one, got, 0, &needed) == VANDREXU_DONE && needed == 0);
     WANT(vandrexu_disk_serve(&disk, 1) == VANDREXU_NO_ENTRY);
     WANT(vandrexu_disk_serve(&disk, 3) == VANDREXU_NO_QUEUE);
-    WANT(vandrexu_host_compare_and_write(&one, 3, zeros, 512, a, 512) == VANDREXU_DONE);
-    WANT(vandrexu_host_compare_and_write(&one, 3, zeros, 512, a, 512) == VANDREXU_IN_CALL);
-    WANT(vandrexu_host_write(&one, 3, a, 512) == VANDREXU_IN_CALL);
-    WANT(vandrexu_host_read(&one, 3, 1) == VANDREXU_IN_CALL);
-    WANT(vandrexu_host_write_zeroes(&one, 3, 1) == VANDREXU_IN_CALL);
-    WANT(vandrexu_host_compare(&one, 3, a, 512) == VANDREXU_IN_CALL);
-    WANT(vandrexu_host_compare_and_write(&two, 3, zeros, 512, b, 512) == VANDREXU_DONE);
-    WANT(vandrexu_host_poll(&one, &reply) == VANDREXU_DONE && reply.kind == VANDREXU_REPLY_PENDING);
+    WANT(vandrexu_host_compare_and_write(&one, 3, zeros, 512, a, 512, &call) == VANDREXU_DONE);
+    WANT(vandrexu_host_compare_and_write(&two, 3, zeros, 512, b, 512, &other) == VANDREXU_DONE);
+    WANT(vandrexu_host_poll(&one, call, &reply) == VANDREXU_DONE && reply.kind == VANDREXU_REPLY_PENDING);
     serve(&disk, 2);
     serve(&disk, 1);
-    over(&one, VANDREXU_REPLY_DIFFERS);
-    over(&two, VANDREXU_REPLY_SWAPPED);
-    WANT(vandrexu_host_write(&one, 4, a, 1024) == VANDREXU_DONE);
+    over(&one, call, VANDREXU_REPLY_DIFFERS);
+    over(&two, other, VANDREXU_REPLY_SWAPPED);
+    WANT(vandrexu_host_write(&one, 4, a, 1024, &call) == VANDREXU_DONE);
     serve(&disk, 1);
-    over(&one, VANDREXU_REPLY_WRITTEN);
-    WANT(vandrexu_host_compare(&two, 4, a, 1024) == VANDREXU_DONE);
+    over(&one, call, VANDREXU_REPLY_WRITTEN);
+    WANT(vandrexu_host_compare(&two, 4, a, 1024, &call) == VANDREXU_DONE);
     serve(&disk, 2);
-    over(&two, VANDREXU_REPLY_EQUAL);
-    WANT(vandrexu_host_compare(&two, 3, a, 512) == VANDREXU_DONE);
+    over(&two, call, VANDREXU_REPLY_EQUAL);
+    WANT(vandrexu_host_compare(&two, 3, a, 512, &call) == VANDREXU_DONE);
     serve(&disk, 2);
-    over(&two, VANDREXU_REPLY_DIFFERS);
-    WANT(vandrexu_host_read(&two, 3, 2) == VANDREXU_DONE);
+    over(&two, call, VANDREXU_REPLY_DIFFERS);
+    WANT(vandrexu_host_read(&two, 3, 2, &call) == VANDREXU_DONE);
     serve(&disk, 2);
-    over(&two, VANDREXU_REPLY_READ);
+    over(&two, call, VANDREXU_REPLY_READ);
     memset(got, 0, sizeof got);
     WANT(vandrexu_host_data(&two, got, 1023, &needed) == VANDREXU_TOO_SMALL && needed == 1024 && got[0] == 0);
     WANT(vandrexu_host_data(&two, got, 1024, &needed) == VANDREXU_DONE && needed == 1024);
     WANT(memcmp(got, b, 512) == 0 && memcmp(got + 512, a, 512) == 0);
     /* zeros on block 4 alone; block 3 stays as it is, and so does block 5 */
-    WANT(vandrexu_host_write_zeroes(&one, 4, 1) == VANDREXU_DONE);
+    WANT(vandrexu_host_write_zeroes(&one, 4, 1, &call) == VANDREXU_DONE);
     serve(&disk, 1);
-    over(&one, VANDREXU_REPLY_WRITTEN);
-    WANT(vandrexu_host_read(&two, 3, 2) == VANDREXU_DONE);
+    over(&one, call, VANDREXU_REPLY_WRITTEN);
+    WANT(vandrexu_host_read(&two, 3, 2, &call) == VANDREXU_DONE);
     serve(&disk, 2);
-    over(&two, VANDREXU_REPLY_READ);
+    over(&two, call, VANDREXU_REPLY_READ);
     WANT(vandrexu_host_data(&two, got, 1024, &needed) == VANDREXU_DONE && needed == 1024);
     WANT(memcmp(got, b, 512) == 0 && memcmp(got + 512, zeros, 512) == 0);
-    WANT(vandrexu_host_compare(&two, 5, a, 512) == VANDREXU_DONE);
+    WANT(vandrexu_host_compare(&two, 5, a, 512, &call) == VANDREXU_DONE);
     serve(&disk, 2);
-    over(&two, VANDREXU_REPLY_EQUAL);
-    WANT(vandrexu_host_write_zeroes(&one, 3, 3) == VANDREXU_DONE);
+    over(&two, call, VANDREXU_REPLY_EQUAL);
+    WANT(vandrexu_host_write_zeroes(&one, 3, 3, &call) == VANDREXU_DONE);
     serve(&disk, 1);
-    over(&one, VANDREXU_REPLY_WRITTEN);
-    WANT(vandrexu_host_compare(&two, 3, zeros, 512) == VANDREXU_DONE);
+    over(&one, call, VANDREXU_REPLY_WRITTEN);
+    WANT(vandrexu_host_compare(&two, 3, zeros, 512, &call) == VANDREXU_DONE);
     serve(&disk, 2);
-    over(&two, VANDREXU_REPLY_EQUAL);
-    WANT(vandrexu_host_compare(&two, 5, zeros, 512) == VANDREXU_DONE);
+    over(&two, call, VANDREXU_REPLY_EQUAL);
+    WANT(vandrexu_host_compare(&two, 5, zeros, 512, &call) == VANDREXU_DONE);
     serve(&disk, 2);
-    over(&two, VANDREXU_REPLY_EQUAL);
+    over(&two, call, VANDREXU_REPLY_EQUAL);
     vandrexu_host_free(&one);
     vandrexu_disk_free(&disk);
-    WANT(vandrexu_host_write(&two, 0, a, 512) == VANDREXU_DONE);
+    WANT(vandrexu_host_write(&two, 0, a, 512, &call) == VANDREXU_DONE);
     vandrexu_host_free(&two);
 }
 
@@ -212,23 +221,25 @@ static void faults(void)
     vandrexu_host host = VANDREXU_HOST_NONE;
     vandrexu_reply reply;
     uint8_t data[2048] = {0};
+    uint32_t call = 77;
     WANT(vandrexu_disk_new(&config, 1, &disk) == VANDREXU_DONE);
     WANT(vandrexu_host_new(&disk, 1, 1, &host) == VANDREXU_DONE);
-    WANT(vandrexu_host_read(&host, 0, 0) == VANDREXU_CALL_LENGTH);
-    WANT(vandrexu_host_read(&host, 0, 257) == VANDREXU_CALL_TOO_LONG);
-    WANT(vandrexu_host_write_zeroes(&host, 0, 0) == VANDREXU_CALL_LENGTH);
-    WANT(vandrexu_host_write_zeroes(&host, 0, 257) == VANDREXU_CALL_TOO_LONG);
-    WANT(vandrexu_host_write(&host, 0, data, 511) == VANDREXU_CALL_LENGTH);
-    WANT(vandrexu_host_compare(&host, 0, data, 0) == VANDREXU_CALL_LENGTH);
-    WANT(vandrexu_host_compare_and_write(&host, 0, data, 512, data, 1024) == VANDREXU_CALL_LENGTH);
-    WANT(vandrexu_host_compare_and_write(&host, 0, data, 1536, data, 1536) == VANDREXU_CALL_TOO_LONG);
-    WANT(vandrexu_host_poll(&host, &reply) == VANDREXU_NO_CALL);
-    WANT(vandrexu_host_read(&host, 8, 1) == VANDREXU_DONE);
+    WANT(vandrexu_host_read(&host, 0, 0, &call) == VANDREXU_CALL_LENGTH);
+    WANT(vandrexu_host_read(&host, 0, 257, &call) == VANDREXU_CALL_TOO_LONG);
+    WANT(vandrexu_host_write_zeroes(&host, 0, 0, &call) == VANDREXU_CALL_LENGTH);
+    WANT(vandrexu_host_write_zeroes(&host, 0, 257, &call) == VANDREXU_CALL_TOO_LONG);
+    WANT(vandrexu_host_write(&host, 0, data, 511, &call) == VANDREXU_CALL_LENGTH);
+    WANT(vandrexu_host_compare(&host, 0, data, 0, &call) == VANDREXU_CALL_LENGTH);
+    WANT(vandrexu_host_compare_and_write(&host, 0, data, 512, data, 1024, &call) == VANDREXU_CALL_LENGTH);
+    WANT(vandrexu_host_compare_and_write(&host, 0, data, 1536, data, 1536, &call) == VANDREXU_CALL_TOO_LONG);
+    WANT(call == 77 && vandrexu_host_poll(&host, 0, &reply) == VANDREXU_NO_CALL);
+    WANT(vandrexu_host_give_up(&host, 0) == VANDREXU_NO_CALL);
+    WANT(vandrexu_host_read(&host, 8, 1, &call) == VANDREXU_DONE);
     serve(&disk, 1);
     /* LBA Out of Range */
-    WANT(vandrexu_host_poll(&host, &reply) == VANDREXU_CALL_FAILED);
+    WANT(vandrexu_host_poll(&host, call, &reply) == VANDREXU_CALL_FAILED);
     WANT(reply.kind == VANDREXU_REPLY_FAILED && reply.sct == 0 && reply.sc == 0x80);
-    WANT(vandrexu_host_poll(&host, &reply) == VANDREXU_NO_CALL);
+    WANT(vandrexu_host_poll(&host, call, &reply) == VANDREXU_NO_CALL);
     vandrexu_host_free(&host);
     vandrexu_disk_free(&disk);
 }
@@ -239,13 +250,14 @@ static void steps(void)
     vandrexu_disk disk = VANDREXU_DISK_NONE;
     vandrexu_host one = VANDREXU_HOST_NONE;
     uint8_t data[512];
+    uint32_t call;
     int tasks = 0;
     fill(data, 0x5A);
     WANT(vandrexu_disk_new(&config, 1, &disk) == VANDREXU_DONE);
     WANT(vandrexu_host_new(&disk, 7, 2, &one) == VANDREXU_DONE);
     WANT(vandrexu_disk_task(&disk) == VANDREXU_NOTHING_READY);
     WANT(vandrexu_disk_fetch(&disk, 2) == VANDREXU_NO_ENTRY);
-    WANT(vandrexu_host_write(&one, 1, data, 512) == VANDREXU_DONE);
+    WANT(vandrexu_host_write(&one, 1, data, 512, &call) == VANDREXU_DONE);
     WANT(vandrexu_disk_fetch(&disk, 2) == VANDREXU_DONE);
     WANT(vandrexu_disk_fetch(&disk, 2) == VANDREXU_UNFINISHED);
     while (vandrexu_disk_task(&disk) == VANDREXU_DONE)
@@ -253,12 +265,12 @@ static void steps(void)
     /* a Grant, a Block, a Post */
     WANT(tasks == 3);
     WANT(vandrexu_disk_task(&disk) == VANDREXU_NOTHING_READY);
-    over(&one, VANDREXU_REPLY_WRITTEN);
-    WANT(vandrexu_host_write(&one, 1, data, 512) == VANDREXU_DONE);
+    over(&one, call, VANDREXU_REPLY_WRITTEN);
+    WANT(vandrexu_host_write(&one, 1, data, 512, &call) == VANDREXU_DONE);
     WANT(vandrexu_disk_fetch(&disk, 2) == VANDREXU_DONE);
     /* it goes on with what was fetched, whichever queue is named */
     WANT(vandrexu_disk_serve(&disk, 1) == VANDREXU_DONE);
-    over(&one, VANDREXU_REPLY_WRITTEN);
+    over(&one, call, VANDREXU_REPLY_WRITTEN);
     vandrexu_disk_free(&disk);
     vandrexu_host_free(&one);
 }
@@ -270,26 +282,150 @@ static void forgets(void)
     vandrexu_host one = VANDREXU_HOST_NONE;
     uint8_t old[512] = {0}, new[512], got[512];
     size_t needed;
+    uint32_t call;
     fill(new, 0x5A);
     WANT(vandrexu_disk_new(&config, 1, &disk) == VANDREXU_DONE);
     WANT(vandrexu_disk_forget(&disk, UINT64_MAX) == VANDREXU_DONE);
     WANT(vandrexu_host_new(&disk, 7, 2, &one) == VANDREXU_DONE);
-    WANT(vandrexu_host_compare_and_write(&one, 1, old, 512, new, 512) == VANDREXU_DONE);
+    WANT(vandrexu_host_compare_and_write(&one, 1, old, 512, new, 512, &call) == VANDREXU_DONE);
     WANT(vandrexu_disk_fetch(&disk, 2) == VANDREXU_DONE);
     do {
         for (uint64_t place = 0; place < 3; place++)
             WANT(vandrexu_disk_forget(&disk, place) == VANDREXU_DONE);
         WANT(vandrexu_disk_forget(&disk, UINT64_MAX) == VANDREXU_DONE);
     } while (vandrexu_disk_task(&disk) == VANDREXU_DONE);
-    over(&one, VANDREXU_REPLY_SWAPPED);
-    WANT(vandrexu_host_read(&one, 1, 1) == VANDREXU_DONE);
+    over(&one, call, VANDREXU_REPLY_SWAPPED);
+    WANT(vandrexu_host_read(&one, 1, 1, &call) == VANDREXU_DONE);
     serve(&disk, 2);
     WANT(vandrexu_disk_forget(&disk, UINT64_MAX) == VANDREXU_DONE);
-    over(&one, VANDREXU_REPLY_READ);
+    over(&one, call, VANDREXU_REPLY_READ);
     WANT(vandrexu_host_data(&one, got, 512, &needed) == VANDREXU_DONE && needed == 512);
     WANT(memcmp(got, new, 512) == 0);
     vandrexu_disk_free(&disk);
     vandrexu_host_free(&one);
+}
+
+/* Five calls of one host are in flight, served in their order, and polled in another; and the numbers are used again. */
+static void flights(void)
+{
+    const vandrexu_config deep = {8, 1, 1, 0, 0, 2, 64, 64, 80, 2};
+    vandrexu_disk disk = VANDREXU_DISK_NONE;
+    vandrexu_host host = VANDREXU_HOST_NONE;
+    vandrexu_reply reply;
+    uint8_t a[512], got[512];
+    uint32_t wrote, swapped, read, differs, compared, last;
+    size_t needed;
+    fill(a, 0xA1);
+    WANT(vandrexu_disk_new(&deep, 1, &disk) == VANDREXU_DONE);
+    WANT(vandrexu_host_new(&disk, 7, 2, &host) == VANDREXU_DONE);
+    waits(&host, 0, 0);
+    WANT(vandrexu_host_write(&host, 0, a, 512, &wrote) == VANDREXU_DONE);
+    WANT(vandrexu_host_compare_and_write(&host, 3, zeros, 512, a, 512, &swapped) == VANDREXU_DONE);
+    WANT(vandrexu_host_read(&host, 3, 1, &read) == VANDREXU_DONE);
+    WANT(vandrexu_host_compare_and_write(&host, 3, zeros, 512, a, 512, &differs) == VANDREXU_DONE);
+    WANT(vandrexu_host_compare(&host, 0, a, 512, &compared) == VANDREXU_DONE);
+    WANT(wrote != swapped && swapped != read && read != differs && differs != compared && compared != wrote);
+    waits(&host, 5, 0);
+    for (int i = 0; i < 5; i++)
+        serve(&disk, 2);
+    over(&host, compared, VANDREXU_REPLY_EQUAL);
+    over(&host, differs, VANDREXU_REPLY_DIFFERS);
+    waits(&host, 3, 0);
+    over(&host, read, VANDREXU_REPLY_READ);
+    WANT(vandrexu_host_data(&host, got, 512, &needed) == VANDREXU_DONE && needed == 512 && memcmp(got, a, 512) == 0);
+    over(&host, wrote, VANDREXU_REPLY_WRITTEN);
+    over(&host, swapped, VANDREXU_REPLY_SWAPPED);
+    waits(&host, 0, 0);
+    /* no 64 entries fit into a queue of 64: one place stays free */
+    for (uint32_t i = 0; i < 63; i++)
+        WANT(vandrexu_host_read(&host, 0, 1, &last) == VANDREXU_DONE);
+    WANT(vandrexu_host_read(&host, 0, 1, &read) == VANDREXU_CALL_NO_ROOM);
+    serve(&disk, 2);
+    serve(&disk, 2);
+    /* of 64 CIDs one is free then, and a pair wants two */
+    WANT(vandrexu_host_compare_and_write(&host, 3, a, 512, a, 512, &read) == VANDREXU_CALL_NO_ROOM);
+    WANT(vandrexu_host_read(&host, 0, 1, &last) == VANDREXU_DONE);
+    WANT(vandrexu_host_read(&host, 0, 1, &read) == VANDREXU_CALL_NO_ROOM);
+    waits(&host, 64, 0);
+    WANT(vandrexu_host_poll(&host, last, &reply) == VANDREXU_DONE && reply.kind == VANDREXU_REPLY_PENDING);
+    vandrexu_host_free(&host);
+    vandrexu_disk_free(&disk);
+}
+
+/* A call that is given up has no number, and keeps its CIDs until polls have reaped its completions. */
+static void gives_up(void)
+{
+    const vandrexu_config deep = {8, 1, 1, 0, 0, 1, 80, 80, 80, 1};
+    vandrexu_disk disk = VANDREXU_DISK_NONE;
+    vandrexu_host host = VANDREXU_HOST_NONE;
+    vandrexu_reply reply;
+    uint8_t a[512];
+    uint32_t pair, read, last;
+    fill(a, 0xA1);
+    WANT(vandrexu_disk_new(&deep, 1, &disk) == VANDREXU_DONE);
+    WANT(vandrexu_host_new(&disk, 1, 1, &host) == VANDREXU_DONE);
+    WANT(vandrexu_host_compare_and_write(&host, 3, zeros, 512, a, 512, &pair) == VANDREXU_DONE);
+    for (uint32_t i = 0; i < 62; i++)
+        WANT(vandrexu_host_read(&host, 3, 1, &read) == VANDREXU_DONE);
+    waits(&host, 63, 0);
+    WANT(vandrexu_host_give_up(&host, pair) == VANDREXU_DONE);
+    waits(&host, 62, 1);
+    WANT(vandrexu_host_give_up(&host, pair) == VANDREXU_NO_CALL);
+    WANT(vandrexu_host_poll(&host, pair, &reply) == VANDREXU_NO_CALL && reply.kind == VANDREXU_REPLY_PENDING);
+    WANT(vandrexu_host_read(&host, 0, 1, &last) == VANDREXU_CALL_NO_ROOM);
+    serve(&disk, 1);
+    /* its completions are there, and not reaped */
+    waits(&host, 62, 1);
+    WANT(vandrexu_host_read(&host, 0, 1, &last) == VANDREXU_CALL_NO_ROOM);
+    WANT(vandrexu_host_poll(&host, read, &reply) == VANDREXU_DONE && reply.kind == VANDREXU_REPLY_PENDING);
+    WANT(vandrexu_host_poll(&host, read, &reply) == VANDREXU_DONE && reply.kind == VANDREXU_REPLY_PENDING);
+    waits(&host, 62, 0);
+    /* it was done, and its two CIDs are free */
+    WANT(vandrexu_host_compare_and_write(&host, 3, a, 512, zeros, 512, &pair) == VANDREXU_DONE);
+    WANT(vandrexu_host_read(&host, 0, 1, &last) == VANDREXU_CALL_NO_ROOM);
+    for (int i = 0; i < 63; i++)
+        serve(&disk, 1);
+    over(&host, pair, VANDREXU_REPLY_SWAPPED);
+    over(&host, read, VANDREXU_REPLY_READ);
+    waits(&host, 61, 0);
+    vandrexu_host_free(&host);
+    vandrexu_disk_free(&disk);
+}
+
+/* A host restarts over and over: it gives up what its life before has begun, and no CID is lost. */
+static void restarts(void)
+{
+    vandrexu_disk disk = VANDREXU_DISK_NONE;
+    vandrexu_host host = VANDREXU_HOST_NONE;
+    vandrexu_reply reply;
+    uint32_t pair, read;
+    uint8_t a[512];
+    fill(a, 0xA1);
+    WANT(vandrexu_disk_new(&config, 1, &disk) == VANDREXU_DONE);
+    WANT(vandrexu_host_new(&disk, 1, 1, &host) == VANDREXU_DONE);
+    for (int life = 0; life < 1000; life++) {
+        WANT(vandrexu_host_compare_and_write(&host, 3, life % 2 ? a : zeros, 512, life % 2 ? zeros : a, 512, &pair)
+             == VANDREXU_DONE);
+        WANT(vandrexu_host_read(&host, 3, 1, &read) == VANDREXU_DONE);
+        /* it dies before its pair is served, or behind that */
+        if (life % 3 == 0)
+            serve(&disk, 1);
+        WANT(vandrexu_host_give_up(&host, pair) == VANDREXU_DONE && vandrexu_host_give_up(&host, read) == VANDREXU_DONE);
+        waits(&host, 0, 2);
+        if (life % 3 != 0)
+            serve(&disk, 1);
+        serve(&disk, 1);
+        /* three completions, of which each poll reaps one: the turns are the pair's and the Read's */
+        for (int polls = 0; polls < 4; polls++)
+            WANT(vandrexu_host_poll(&host, 0, &reply) == VANDREXU_NO_CALL);
+        waits(&host, 0, 0);
+    }
+    /* the last swap wrote zeros */
+    WANT(vandrexu_host_compare(&host, 3, zeros, 512, &read) == VANDREXU_DONE);
+    serve(&disk, 1);
+    over(&host, read, VANDREXU_REPLY_EQUAL);
+    vandrexu_host_free(&host);
+    vandrexu_disk_free(&disk);
 }
 
 /* No handle is left behind. */
@@ -316,14 +452,14 @@ static void *adds(void *at)
     uint8_t old[512] = {0}, new[512];
     for (int added = 0; added < 200;) {
         vandrexu_reply reply;
-        uint32_t told;
+        uint32_t told, call;
         memcpy(new, old, sizeof new);
         new[0] = (uint8_t)(old[0] + 1);
         new[1] = (uint8_t)(old[1] + (new[0] == 0));
-        while ((told = vandrexu_host_compare_and_write(host, 0, old, 512, new, 512)) == VANDREXU_CALL_BUSY)
+        while ((told = vandrexu_host_compare_and_write(host, 0, old, 512, new, 512, &call)) == VANDREXU_CALL_BUSY)
             ;
         WANT(told == VANDREXU_DONE);
-        while ((told = vandrexu_host_poll(host, &reply)) == VANDREXU_CALL_BUSY
+        while ((told = vandrexu_host_poll(host, call, &reply)) == VANDREXU_CALL_BUSY
                || (told == VANDREXU_DONE && reply.kind == VANDREXU_REPLY_PENDING))
             ;
         WANT(told == VANDREXU_DONE);
@@ -333,10 +469,10 @@ static void *adds(void *at)
             continue;
         }
         WANT(reply.kind == VANDREXU_REPLY_DIFFERS);
-        while ((told = vandrexu_host_read(host, 0, 1)) == VANDREXU_CALL_BUSY)
+        while ((told = vandrexu_host_read(host, 0, 1, &call)) == VANDREXU_CALL_BUSY)
             ;
         WANT(told == VANDREXU_DONE);
-        while ((told = vandrexu_host_poll(host, &reply)) == VANDREXU_CALL_BUSY
+        while ((told = vandrexu_host_poll(host, call, &reply)) == VANDREXU_CALL_BUSY
                || (told == VANDREXU_DONE && reply.kind == VANDREXU_REPLY_PENDING))
             ;
         size_t needed;
@@ -353,6 +489,7 @@ static void threads(void)
     vandrexu_disk disk = VANDREXU_DISK_NONE;
     vandrexu_host hosts[2] = {VANDREXU_HOST_NONE, VANDREXU_HOST_NONE};
     pthread_t ids[2];
+    uint32_t call;
     uint8_t wanted[512] = {400 % 256, 400 / 256};
     WANT(vandrexu_disk_new(&config, 2, &disk) == VANDREXU_DONE);
     for (int i = 0; i < 2; i++)
@@ -367,9 +504,9 @@ static void threads(void)
         }
     for (int i = 0; i < 2; i++)
         WANT(pthread_join(ids[i], NULL) == 0);
-    WANT(vandrexu_host_compare(&hosts[0], 0, wanted, 512) == VANDREXU_DONE);
+    WANT(vandrexu_host_compare(&hosts[0], 0, wanted, 512, &call) == VANDREXU_DONE);
     serve(&disk, 1);
-    over(&hosts[0], VANDREXU_REPLY_EQUAL);
+    over(&hosts[0], call, VANDREXU_REPLY_EQUAL);
     for (int i = 0; i < 2; i++)
         vandrexu_host_free(&hosts[i]);
     vandrexu_disk_free(&disk);
@@ -384,6 +521,9 @@ int main(void)
     faults();
     steps();
     forgets();
+    flights();
+    gives_up();
+    restarts();
     many();
     threads();
     puts("hosts: as they should be");
@@ -392,11 +532,11 @@ int main(void)
 #else
 #include "refused_runs.h"
 
-static void poll(vandrexu_host *host, uint32_t kind)
+static void poll(vandrexu_host *host, uint32_t call, uint32_t kind)
 {
     vandrexu_reply reply;
     do {
-        uint32_t answer = vandrexu_host_poll(host, &reply);
+        uint32_t answer = vandrexu_host_poll(host, call, &reply);
         if (is_refusal(answer))
             WANT(reply.kind == VANDREXU_REPLY_PENDING);
         else
@@ -410,7 +550,8 @@ static void run_refused(long at)
     vandrexu_disk disk = VANDREXU_DISK_NONE;
     vandrexu_host one = VANDREXU_HOST_NONE, two = VANDREXU_HOST_NONE;
     uint8_t data[512], got[512];
-    size_t needed;
+    size_t needed, calls, given_up;
+    uint32_t call;
     fill(data, 0xC3);
     refused_at = at;
     allocations = blocks = 0;
@@ -418,16 +559,20 @@ static void run_refused(long at)
     TRY(vandrexu_host_new(&disk, 1, 1, &one));
     /* no pass was lost; a number and a queue whose host was refused memory aren't used */
     TRY(vandrexu_host_new(&disk, 2, 2, &two));
-    TRY(vandrexu_host_compare_and_write(&one, 3, zeros, 512, data, 512));
+    TRY(vandrexu_host_compare_and_write(&one, 3, zeros, 512, data, 512, &call));
     TRY(vandrexu_disk_serve(&disk, 1));
-    poll(&one, VANDREXU_REPLY_SWAPPED);
-    TRY(vandrexu_host_write_zeroes(&one, 4, 2));
+    poll(&one, call, VANDREXU_REPLY_SWAPPED);
+    TRY(vandrexu_host_write_zeroes(&one, 4, 2, &call));
     TRY(vandrexu_disk_serve(&disk, 1));
-    poll(&one, VANDREXU_REPLY_WRITTEN);
-    TRY(vandrexu_host_read(&two, 3, 1));
+    poll(&one, call, VANDREXU_REPLY_WRITTEN);
+    TRY(vandrexu_host_read(&two, 3, 1, &call));
     TRY(vandrexu_disk_serve(&disk, 2));
-    poll(&two, VANDREXU_REPLY_READ);
+    poll(&two, call, VANDREXU_REPLY_READ);
     WANT(vandrexu_host_data(&two, got, 512, &needed) == VANDREXU_DONE && memcmp(got, data, 512) == 0);
+    /* a call whose giving up is refused memory goes on */
+    TRY(vandrexu_host_read(&one, 3, 1, &call));
+    TRY(vandrexu_host_give_up(&one, call));
+    WANT(vandrexu_host_waiting(&one, &calls, &given_up) == VANDREXU_DONE && calls == 0 && given_up == 1);
     vandrexu_disk_free(&disk);
     vandrexu_host_free(&one);
     vandrexu_host_free(&two);

@@ -51,12 +51,12 @@ static void end(struct run *run)
 }
 
 /* Serves the call of a host, and polls until it is over. */
-static void over(struct run *run, int host)
+static void over(struct run *run, int host, uint32_t call)
 {
     vandrexu_reply reply;
     TRY(vandrexu_disk_serve(&run->disk, (uint16_t)host));
     do
-        TRY(vandrexu_host_poll(&run->hosts[host - 1], &reply));
+        TRY(vandrexu_host_poll(&run->hosts[host - 1], call, &reply));
     while (reply.kind == VANDREXU_REPLY_PENDING);
 }
 
@@ -71,24 +71,27 @@ static void spell(uint8_t *block, uint8_t host, uint8_t serial)
 static void swaps(struct run *run, int host, uint64_t lba, uint8_t from, uint8_t from_serial, uint8_t to, uint8_t to_serial)
 {
     uint8_t old[512], new[512];
+    uint32_t call;
     spell(old, from, from_serial);
     spell(new, to, to_serial);
-    TRY(vandrexu_host_compare_and_write(&run->hosts[host - 1], lba, old, 512, new, 512));
-    over(run, host);
+    TRY(vandrexu_host_compare_and_write(&run->hosts[host - 1], lba, old, 512, new, 512, &call));
+    over(run, host, call);
 }
 
 static void writes(struct run *run, int host, uint64_t lba, uint8_t with)
 {
     uint8_t block[512];
+    uint32_t call;
     memset(block, with, 512);
-    TRY(vandrexu_host_write(&run->hosts[host - 1], lba, block, 512));
-    over(run, host);
+    TRY(vandrexu_host_write(&run->hosts[host - 1], lba, block, 512, &call));
+    over(run, host, call);
 }
 
 static void reads(struct run *run, int host, uint64_t lba)
 {
-    TRY(vandrexu_host_read(&run->hosts[host - 1], lba, 1));
-    over(run, host);
+    uint32_t call;
+    TRY(vandrexu_host_read(&run->hosts[host - 1], lba, 1, &call));
+    over(run, host, call);
 }
 
 /* The text of a disk's history, in pieces of so many bytes at most; its length. */
@@ -246,6 +249,7 @@ static void pieces(void)
     struct run run;
     size_t length, needed, longest = 0, at = 0;
     uint64_t next = 7, behind;
+    uint32_t call;
     const uint8_t *line;
     begin(&run);
     WANT(history(&run.disk, whole, ROOM) == strlen("config 8 1 1 0 0 3 4 4 8\n"));
@@ -269,7 +273,7 @@ static void pieces(void)
     WANT(vandrexu_disk_medium(&run.disk, 8, block) == VANDREXU_NO_BLOCK && memcmp(block, due, 512) == 0);
     WANT(vandrexu_disk_medium(&run.disk, UINT64_MAX, block) == VANDREXU_NO_BLOCK);
     /* a look forgets nothing of what was fetched */
-    TRY(vandrexu_host_read(&run.hosts[0], 5, 1));
+    TRY(vandrexu_host_read(&run.hosts[0], 5, 1, &call));
     WANT(vandrexu_disk_fetch(&run.disk, 1) == VANDREXU_DONE);
     WANT(vandrexu_disk_medium(&run.disk, 0, block) == VANDREXU_DONE && block[0] == 0);
     WANT(vandrexu_disk_fetch(&run.disk, 1) == VANDREXU_UNFINISHED);

@@ -170,6 +170,7 @@ static void nothing(void)
     vandrexu_reply reply = {9, 9, 9, {9, 9}};
     uint8_t out[1] = {9};
     size_t needed = 7;
+    size_t calls = 7, given_up = 7;
     uint64_t count = 7;
     uint32_t call = 7;
     for (int i = 0; i < 2; i++) {
@@ -179,6 +180,8 @@ static void nothing(void)
         WANT(vandrexu_remote_compare(&remote, 0, zeros, 512, &call) == VANDREXU_NO_HANDLE);
         WANT(vandrexu_remote_compare_and_write(&remote, 0, zeros, 512, zeros, 512, &call) == VANDREXU_NO_HANDLE);
         WANT(vandrexu_remote_poll(&remote, 0, &reply) == VANDREXU_NO_HANDLE && reply.kind == 9 && reply.sc == 9);
+        WANT(vandrexu_remote_give_up(&remote, 0) == VANDREXU_NO_HANDLE);
+        WANT(vandrexu_remote_waiting(&remote, &calls, &given_up) == VANDREXU_NO_HANDLE && calls == 7 && given_up == 7);
         WANT(vandrexu_remote_data(&remote, out, 1, &needed) == VANDREXU_NO_HANDLE && out[0] == 9);
         WANT(vandrexu_remote_outgoing(&remote, &entry, out, 1) == VANDREXU_NO_HANDLE && out[0] == 9);
         WANT(vandrexu_remote_incoming(&remote, zeros, zeros, 0) == VANDREXU_NO_HANDLE);
@@ -388,6 +391,46 @@ static void full(void)
     WANT(vandrexu_remote_poll(&remote, last, &reply) == VANDREXU_DONE && reply.kind == VANDREXU_REPLY_READ);
     WANT(vandrexu_remote_read(&remote, 9, 1, &call) == VANDREXU_DONE && call == last);
     WANT(vandrexu_remote_outgoing(&remote, &entry, out, 0) == VANDREXU_DONE && entry.bytes[2] == 63);
+    vandrexu_remote_free(&remote);
+}
+
+/* Wants the host to wait for so many calls that have a number, and so many that were given up. */
+static void waits(vandrexu_remote *remote, size_t calls, size_t given_up)
+{
+    size_t numbered = 77, others = 77;
+    WANT(vandrexu_remote_waiting(remote, &numbered, &others) == VANDREXU_DONE);
+    WANT(numbered == calls && others == given_up);
+}
+
+/* Calls that are given up have no number, and keep their CIDs until polls took their completions, of each in its turn. */
+static void gives_up(void)
+{
+    vandrexu_remote remote = VANDREXU_REMOTE_NONE;
+    vandrexu_reply reply;
+    uint32_t call[64], last;
+    WANT(vandrexu_remote_new(1, 1, 0, 0, 0, &remote) == VANDREXU_DONE);
+    WANT(vandrexu_remote_give_up(&remote, 0) == VANDREXU_NO_CALL);
+    for (uint32_t i = 0; i < 64; i++)
+        WANT(vandrexu_remote_read(&remote, i, 1, &call[i]) == VANDREXU_DONE);
+    waits(&remote, 64, 0);
+    WANT(vandrexu_remote_give_up(&remote, call[3]) == VANDREXU_DONE);
+    WANT(vandrexu_remote_give_up(&remote, call[3]) == VANDREXU_NO_CALL);
+    WANT(vandrexu_remote_give_up(&remote, call[9]) == VANDREXU_DONE);
+    waits(&remote, 62, 2);
+    WANT(vandrexu_remote_read(&remote, 0, 1, &last) == VANDREXU_CALL_NO_ROOM);
+    WANT(vandrexu_remote_incoming(&remote, success(9), zeros, 512) == VANDREXU_DONE);
+    WANT(vandrexu_remote_incoming(&remote, success(63), zeros, 512) == VANDREXU_DONE);
+    /* that of CID 3 has its turn, and takes the completion of CID 9; the call that is polled takes its own */
+    WANT(vandrexu_remote_poll(&remote, call[63], &reply) == VANDREXU_DONE && reply.kind == VANDREXU_REPLY_READ);
+    waits(&remote, 61, 2);
+    /* then that of CID 9, which is free from now on, as 63 is */
+    WANT(vandrexu_remote_poll(&remote, call[63], &reply) == VANDREXU_NO_CALL && reply.kind == VANDREXU_REPLY_PENDING);
+    waits(&remote, 61, 1);
+    WANT(vandrexu_remote_read(&remote, 0, 1, &call[9]) == VANDREXU_DONE);
+    WANT(vandrexu_remote_read(&remote, 0, 1, &call[63]) == VANDREXU_DONE);
+    WANT(vandrexu_remote_read(&remote, 0, 1, &last) == VANDREXU_CALL_NO_ROOM);
+    waits(&remote, 63, 1);
+    WANT(dropped(&remote) == 0);
     vandrexu_remote_free(&remote);
 }
 
@@ -773,6 +816,7 @@ int main(void)
     entries();
     faults();
     full();
+    gives_up();
     strays();
     many();
     no_slots();
@@ -844,7 +888,7 @@ static void run_refused(long at)
     vandrexu_remote_slot_host host = VANDREXU_REMOTE_SLOT_HOST_NONE;
     uint8_t data[512], got[512];
     uint32_t answer, call;
-    size_t needed;
+    size_t needed, calls, given_up;
     fill(data, 0xC3);
     refused_at = at;
     allocations = blocks = 0;
@@ -871,6 +915,10 @@ static void run_refused(long at)
     carry(&disk, 1, plain(&remote));
     over(&remote, call, VANDREXU_REPLY_READ);
     WANT(vandrexu_remote_data(&remote, got, 512, &needed) == VANDREXU_DONE && memcmp(got, data, 512) == 0);
+    /* a call whose giving up is refused memory goes on */
+    TRY(vandrexu_remote_read(&remote, 1, 1, &call));
+    TRY(vandrexu_remote_give_up(&remote, call));
+    WANT(vandrexu_remote_waiting(&remote, &calls, &given_up) == VANDREXU_DONE && calls == 0 && given_up == 1);
     TRY(vandrexu_remote_slot_claim(&host, 3));
     slot_over(&disk, &host, VANDREXU_SLOT_HELD);
     /* a release that was refused left the host its slot */

@@ -48,12 +48,12 @@ static vandrexu_slot_reply over(vandrexu_disk *disk, uint16_t queue, vandrexu_sl
 }
 
 /* The same of a host of the other kind. */
-static void plain_over(vandrexu_disk *disk, uint16_t queue, vandrexu_host *host, uint32_t kind)
+static void plain_over(vandrexu_disk *disk, uint16_t queue, vandrexu_host *host, uint32_t call, uint32_t kind)
 {
     vandrexu_reply reply;
     serve(disk, queue);
     do
-        WANT(vandrexu_host_poll(host, &reply) == VANDREXU_DONE);
+        WANT(vandrexu_host_poll(host, call, &reply) == VANDREXU_DONE);
     while (reply.kind == VANDREXU_REPLY_PENDING);
     WANT(reply.kind == kind);
 }
@@ -155,6 +155,7 @@ static void second_hosts(void)
     vandrexu_disk disk = VANDREXU_DISK_NONE;
     vandrexu_slot_host one = VANDREXU_SLOT_HOST_NONE;
     vandrexu_host two = VANDREXU_HOST_NONE;
+    uint32_t call;
     WANT(vandrexu_slot_disk_new(&shared, 2, FIRST, COUNT, &disk) == VANDREXU_DONE);
     WANT(vandrexu_slot_host_new(&disk, 1, 1, &one) == VANDREXU_DONE);
     /* the second host of number 1, the third, and so on */
@@ -164,10 +165,10 @@ static void second_hosts(void)
     refused(&disk, 2, 3, VANDREXU_USED_QUEUE);
     /* what was refused has used no pass, and no number */
     WANT(vandrexu_host_new(&disk, 2, 4, &two) == VANDREXU_DONE);
-    WANT(vandrexu_host_write(&two, 0, zeros, 512) == VANDREXU_DONE);
+    WANT(vandrexu_host_write(&two, 0, zeros, 512, &call) == VANDREXU_DONE);
     WANT(vandrexu_slot_claim(&one, 0) == VANDREXU_DONE);
     over(&disk, 1, &one, VANDREXU_SLOT_HELD);
-    plain_over(&disk, 4, &two, VANDREXU_REPLY_WRITTEN);
+    plain_over(&disk, 4, &two, call, VANDREXU_REPLY_WRITTEN);
     for (int freed = 0; freed < 2; freed++) {
         for (uint16_t queue = 1; queue <= 4; queue++) {
             refused(&disk, 1, queue, VANDREXU_USED_NUMBER);
@@ -331,9 +332,11 @@ static void takeovers(void)
 static void writes(vandrexu_host *host, uint64_t lba, uint32_t blocks, uint32_t answer)
 {
     static const uint8_t data[1024];
-    WANT(vandrexu_host_write(host, lba, data, 512 * blocks) == answer);
-    WANT(vandrexu_host_write_zeroes(host, lba, blocks) == answer);
-    WANT(vandrexu_host_compare_and_write(host, lba, data, 512 * blocks, data, 512 * blocks) == answer);
+    uint32_t call = 77;
+    WANT(vandrexu_host_write(host, lba, data, 512 * blocks, &call) == answer);
+    WANT(vandrexu_host_write_zeroes(host, lba, blocks, &call) == answer);
+    WANT(vandrexu_host_compare_and_write(host, lba, data, 512 * blocks, data, 512 * blocks, &call) == answer);
+    WANT(call == 77);
 }
 
 /* A disk with a slot host, which holds the first slot and the last one, and a host of the other kind. */
@@ -356,6 +359,7 @@ static void plain_writes(void)
     vandrexu_host two = VANDREXU_HOST_NONE;
     vandrexu_slot_reply reply;
     vandrexu_reply none;
+    uint32_t call;
     uint8_t data[4096];
     memset(data, 0xEE, sizeof data);
     beside_slots(&disk, &one, &two);
@@ -365,25 +369,25 @@ static void plain_writes(void)
     writes(&two, FIRST - 1, 2, VANDREXU_CALL_SLOT_AREA);
     writes(&two, FIRST + COUNT - 1, 2, VANDREXU_CALL_SLOT_AREA);
     /* from block 0 to the first slot, from the last slot to block 7, and all blocks */
-    WANT(vandrexu_host_write(&two, 0, data, 1536) == VANDREXU_CALL_SLOT_AREA);
-    WANT(vandrexu_host_write(&two, 5, data, 1536) == VANDREXU_CALL_SLOT_AREA);
-    WANT(vandrexu_host_write(&two, 0, data, sizeof data) == VANDREXU_CALL_SLOT_AREA);
-    WANT(vandrexu_host_write_zeroes(&two, 0, 256) == VANDREXU_CALL_SLOT_AREA);
+    WANT(vandrexu_host_write(&two, 0, data, 1536, &call) == VANDREXU_CALL_SLOT_AREA);
+    WANT(vandrexu_host_write(&two, 5, data, 1536, &call) == VANDREXU_CALL_SLOT_AREA);
+    WANT(vandrexu_host_write(&two, 0, data, sizeof data, &call) == VANDREXU_CALL_SLOT_AREA);
+    WANT(vandrexu_host_write_zeroes(&two, 0, 256, &call) == VANDREXU_CALL_SLOT_AREA);
     /* nothing was published */
-    WANT(vandrexu_host_poll(&two, &none) == VANDREXU_NO_CALL);
+    WANT(vandrexu_host_poll(&two, 0, &none) == VANDREXU_NO_CALL);
     WANT(vandrexu_disk_serve(&disk, 2) == VANDREXU_NO_ENTRY);
     for (uint64_t lba = FIRST - 1; lba <= FIRST + COUNT; lba += COUNT + 1) {
-        WANT(vandrexu_host_write(&two, lba, data, 512) == VANDREXU_DONE);
-        plain_over(&disk, 2, &two, VANDREXU_REPLY_WRITTEN);
-        WANT(vandrexu_host_compare_and_write(&two, lba, data, 512, zeros, 512) == VANDREXU_DONE);
-        plain_over(&disk, 2, &two, VANDREXU_REPLY_SWAPPED);
-        WANT(vandrexu_host_write_zeroes(&two, lba, 1) == VANDREXU_DONE);
-        plain_over(&disk, 2, &two, VANDREXU_REPLY_WRITTEN);
+        WANT(vandrexu_host_write(&two, lba, data, 512, &call) == VANDREXU_DONE);
+        plain_over(&disk, 2, &two, call, VANDREXU_REPLY_WRITTEN);
+        WANT(vandrexu_host_compare_and_write(&two, lba, data, 512, zeros, 512, &call) == VANDREXU_DONE);
+        plain_over(&disk, 2, &two, call, VANDREXU_REPLY_SWAPPED);
+        WANT(vandrexu_host_write_zeroes(&two, lba, 1, &call) == VANDREXU_DONE);
+        plain_over(&disk, 2, &two, call, VANDREXU_REPLY_WRITTEN);
     }
     /* and up to the slots: the blocks 0 and 1, 6 and 7 */
     for (uint64_t lba = 0; lba <= 6; lba += 6) {
-        WANT(vandrexu_host_write(&two, lba, data, 1024) == VANDREXU_DONE);
-        plain_over(&disk, 2, &two, VANDREXU_REPLY_WRITTEN);
+        WANT(vandrexu_host_write(&two, lba, data, 1024, &call) == VANDREXU_DONE);
+        plain_over(&disk, 2, &two, call, VANDREXU_REPLY_WRITTEN);
     }
     for (uint32_t slot = 0; slot < COUNT; slot += COUNT - 1) {
         WANT(vandrexu_slot_ask_holder(&one, slot) == VANDREXU_DONE);
@@ -411,24 +415,24 @@ static void plain_answers(void)
     vandrexu_host two = VANDREXU_HOST_NONE;
     uint8_t got[512 * COUNT];
     size_t needed;
+    uint32_t call;
     beside_slots(&disk, &one, &two);
-    WANT(vandrexu_host_compare(&two, FIRST, name, sizeof name) == VANDREXU_DONE);
-    plain_over(&disk, 2, &two, VANDREXU_REPLY_EQUAL);
-    WANT(vandrexu_host_read(&two, FIRST, COUNT) == VANDREXU_DONE);
-    WANT(vandrexu_host_read(&two, FIRST, COUNT) == VANDREXU_IN_CALL);
-    writes(&two, FIRST, 1, VANDREXU_IN_CALL);
-    plain_over(&disk, 2, &two, VANDREXU_REPLY_READ);
+    WANT(vandrexu_host_compare(&two, FIRST, name, sizeof name, &call) == VANDREXU_DONE);
+    plain_over(&disk, 2, &two, call, VANDREXU_REPLY_EQUAL);
+    WANT(vandrexu_host_read(&two, FIRST, COUNT, &call) == VANDREXU_DONE);
+    writes(&two, FIRST, 1, VANDREXU_CALL_SLOT_AREA);
+    plain_over(&disk, 2, &two, call, VANDREXU_REPLY_READ);
     WANT(vandrexu_host_data(&two, got, sizeof got, &needed) == VANDREXU_DONE && needed == sizeof got);
     WANT(memcmp(got, name, 512) == 0 && memcmp(got + 512, zeros, 512) == 0 && memcmp(got + 1024, zeros, 512) == 0);
     WANT(got[1536] == 1 && got[1536 + 8] == 2);
     /* the name that is there swaps nothing */
-    WANT(vandrexu_host_compare_and_write(&two, FIRST, name, 512, zeros, 512) == VANDREXU_CALL_SLOT_AREA);
-    WANT(vandrexu_host_write(&two, FIRST, data, 0) == VANDREXU_CALL_LENGTH);
-    WANT(vandrexu_host_write(&two, FIRST, data, 511) == VANDREXU_CALL_LENGTH);
-    WANT(vandrexu_host_write_zeroes(&two, FIRST, 0) == VANDREXU_CALL_LENGTH);
-    WANT(vandrexu_host_write_zeroes(&two, FIRST, 257) == VANDREXU_CALL_TOO_LONG);
-    WANT(vandrexu_host_compare_and_write(&two, FIRST, data, 512, data, 1024) == VANDREXU_CALL_LENGTH);
-    WANT(vandrexu_host_compare_and_write(&two, FIRST, data, 1536, data, 1536) == VANDREXU_CALL_TOO_LONG);
+    WANT(vandrexu_host_compare_and_write(&two, FIRST, name, 512, zeros, 512, &call) == VANDREXU_CALL_SLOT_AREA);
+    WANT(vandrexu_host_write(&two, FIRST, data, 0, &call) == VANDREXU_CALL_LENGTH);
+    WANT(vandrexu_host_write(&two, FIRST, data, 511, &call) == VANDREXU_CALL_LENGTH);
+    WANT(vandrexu_host_write_zeroes(&two, FIRST, 0, &call) == VANDREXU_CALL_LENGTH);
+    WANT(vandrexu_host_write_zeroes(&two, FIRST, 257, &call) == VANDREXU_CALL_TOO_LONG);
+    WANT(vandrexu_host_compare_and_write(&two, FIRST, data, 512, data, 1024, &call) == VANDREXU_CALL_LENGTH);
+    WANT(vandrexu_host_compare_and_write(&two, FIRST, data, 1536, data, 1536, &call) == VANDREXU_CALL_TOO_LONG);
     vandrexu_slot_host_free(&one);
     vandrexu_host_free(&two);
     vandrexu_disk_free(&disk);
@@ -436,8 +440,8 @@ static void plain_answers(void)
     narrow.sq_size = 2;
     WANT(vandrexu_slot_disk_new(&narrow, 1, FIRST, COUNT, &disk) == VANDREXU_DONE);
     WANT(vandrexu_host_new(&disk, 1, 1, &two) == VANDREXU_DONE);
-    WANT(vandrexu_host_compare_and_write(&two, FIRST, data, 512, data, 512) == VANDREXU_CALL_SLOT_AREA);
-    WANT(vandrexu_host_compare_and_write(&two, FIRST - 1, data, 512, data, 512) == VANDREXU_CALL_NO_ROOM);
+    WANT(vandrexu_host_compare_and_write(&two, FIRST, data, 512, data, 512, &call) == VANDREXU_CALL_SLOT_AREA);
+    WANT(vandrexu_host_compare_and_write(&two, FIRST - 1, data, 512, data, 512, &call) == VANDREXU_CALL_NO_ROOM);
     vandrexu_host_free(&two);
     vandrexu_disk_free(&disk);
 }
@@ -630,6 +634,7 @@ static void run_refused(long at)
     vandrexu_disk disk = VANDREXU_DISK_NONE;
     vandrexu_slot_host one = VANDREXU_SLOT_HOST_NONE, two = VANDREXU_SLOT_HOST_NONE;
     vandrexu_host plain = VANDREXU_HOST_NONE;
+    uint32_t answer, call;
     refused_at = at;
     allocations = blocks = 0;
     TRY(vandrexu_slot_disk_new(&wide, 3, FIRST, COUNT, &disk));
@@ -637,8 +642,9 @@ static void run_refused(long at)
     /* no pass was lost; a number and a queue whose host was refused memory aren't used */
     TRY(vandrexu_slot_host_new(&disk, 2, 2, &two));
     TRY(vandrexu_host_new(&disk, 3, 3, &plain));
-    /* a slot is looked for before memory is */
-    WANT(vandrexu_host_write(&plain, FIRST, zeros, 512) == VANDREXU_CALL_SLOT_AREA);
+    while (is_refusal(answer = vandrexu_host_write(&plain, FIRST, zeros, 512, &call)))
+        ;
+    WANT(answer == VANDREXU_CALL_SLOT_AREA);
     TRY(vandrexu_slot_claim_any(&one));
     poll(&disk, 1, &one, VANDREXU_SLOT_HELD);
     TRY(vandrexu_slot_claim(&one, 1));

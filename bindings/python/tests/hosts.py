@@ -59,11 +59,12 @@ class Hosts(unittest.TestCase):
 
     # ---- a disk and its hosts
 
-    def over(self, disk, host):
-        """Serves a host's queue, and polls until its call is over."""
+    def over(self, disk, host, call):
+        """Serves a host's queue, and polls until the call is over. No call has its number then."""
         disk.serve(host.queue)
-        while (reply := host.poll()).kind == ReplyKind.PENDING:
+        while (reply := host.poll(call)).kind == ReplyKind.PENDING:
             pass
+        self.refused(Status.NO_CALL, host.poll, call)
         return reply
 
     def test_what_hosts_are_refused(self):
@@ -77,7 +78,8 @@ class Hosts(unittest.TestCase):
                 self.refused(Status.NO_QUEUE, disk.serve, 3)
                 self.refused(Status.NO_ENTRY, disk.fetch, 1)
                 self.assertIs(disk.task(), False)
-                self.refused(Status.NO_CALL, host.poll)
+                self.refused(Status.NO_CALL, host.poll, 0)
+                self.refused(Status.NO_CALL, host.give_up, 0)
                 for status, call, *arguments in (
                         (Status.CALL_LENGTH, host.read, 0, 0), (Status.CALL_TOO_LONG, host.read, 0, 257),
                         (Status.CALL_LENGTH, host.write_zeroes, 0, 0),
@@ -86,15 +88,13 @@ class Hosts(unittest.TestCase):
                         (Status.CALL_LENGTH, host.compare_and_write, 0, bytes(512), bytes(1024)),
                         (Status.CALL_TOO_LONG, host.compare_and_write, 0, bytes(1536), bytes(1536))):
                     self.assertIsInstance(self.refused(status, call, *arguments), CallRefused)
-                host.write(0, A1)
-                for call, arguments in ((host.read, (0,)), (host.write, (0, A1)), (host.write_zeroes, (0,)),
-                                        (host.compare, (0, A1)), (host.compare_and_write, (0, A1, A1))):
-                    self.refused(Status.IN_CALL, call, *arguments)
+                write = host.write(0, A1)
                 disk.fetch(1)
                 self.refused(Status.UNFINISHED, disk.fetch, 2)
                 disk.serve(2)
-                self.assertEqual(host.poll(), Reply(ReplyKind.WRITTEN))
-                for call, arguments in ((host.read, (-1,)), (host.read, (0, 2 ** 32)), (disk.serve, (65536,)),
+                self.assertEqual(host.poll(write), Reply(ReplyKind.WRITTEN))
+                for call, arguments in ((host.read, (-1,)), (host.read, (0, 2 ** 32)), (host.poll, (-1,)),
+                                        (host.give_up, (2 ** 32,)), (disk.serve, (65536,)),
                                         (disk.host, (2 ** 32, 1)), (Disk, (TWO, 65536))):
                     self.assertRaises(OverflowError, call, *arguments)
         # a queue of two entries takes one at a time
@@ -142,15 +142,13 @@ class Hosts(unittest.TestCase):
                 self.refused(status, call, *arguments)
             self.refused(Status.NO_ENTRY, disk.serve, 1)
             # they are read and compared, and the blocks on both sides are written
-            host.read(1, 6)
-            self.refused(Status.IN_CALL, host.write, 2, A1)
-            self.assertEqual(self.over(disk, host), Reply(ReplyKind.READ, bytes(3072)))
-            host.compare(1, bytes(3072))
-            self.assertEqual(self.over(disk, host), Reply(ReplyKind.EQUAL))
+            read = host.read(1, 6)
+            self.refused(Status.CALL_SLOT_AREA, host.write, 2, A1)
+            self.assertEqual(self.over(disk, host, read), Reply(ReplyKind.READ, bytes(3072)))
+            self.assertEqual(self.over(disk, host, host.compare(1, bytes(3072))), Reply(ReplyKind.EQUAL))
             for lba, blocks in ((0, 2), (1, 1), (6, 1), (6, 2)):
                 for call, *arguments in self.writes(host, lba, blocks):
-                    call(*arguments)
-                    self.assertIn(self.over(disk, host).kind, (ReplyKind.WRITTEN, ReplyKind.SWAPPED))
+                    self.assertIn(self.over(disk, host, call(*arguments)).kind, (ReplyKind.WRITTEN, ReplyKind.SWAPPED))
         # a queue of two entries takes one at a time
         with Disk(Config.of_line("config 8 1 1 0 0 1 2 4 8"), 1, slots=(2, 4)) as disk, disk.host(1, 1) as host:
             self.refused(Status.CALL_SLOT_AREA, host.compare_and_write, 5, A1, A1)
@@ -163,37 +161,67 @@ class Hosts(unittest.TestCase):
             # (these are begun, and fail)
             for lba in (65534, 65536, 2 ** 64 - 1):
                 for call, *arguments in self.writes(host, lba, 1):
-                    call(*arguments)
-                    self.assertEqual(self.over(disk, host), Reply(ReplyKind.FAILED, status=(0, 0x80)))
+                    self.assertEqual(self.over(disk, host, call(*arguments)), Reply(ReplyKind.FAILED, status=(0, 0x80)))
 
     def test_each_reply(self):
         disk = Disk(TWO, 2)
         one, two = disk.host(1, 1), disk.host(2, 2)
-        one.compare_and_write(3, bytes(1024), A1 + A1)
-        self.assertEqual(one.poll(), Reply(ReplyKind.PENDING))
-        self.assertEqual(self.over(disk, one), Reply(ReplyKind.SWAPPED))
-        two.compare_and_write(3, bytes(512), bytes(512))
-        self.assertEqual(self.over(disk, two), Reply(ReplyKind.DIFFERS))
-        two.compare(4, A1)
-        self.assertEqual(self.over(disk, two), Reply(ReplyKind.EQUAL))
-        two.compare(4, bytes(512))
-        self.assertEqual(self.over(disk, two), Reply(ReplyKind.DIFFERS))
-        one.write_zeroes(4)
-        self.assertEqual(self.over(disk, one), Reply(ReplyKind.WRITTEN))
-        two.read(3, 2)
-        self.assertEqual(self.over(disk, two), Reply(ReplyKind.READ, A1 + bytes(512)))
-        two.read(8)
-        self.assertEqual(self.over(disk, two), Reply(ReplyKind.FAILED, status=(0, 0x80)))
-        self.refused(Status.NO_CALL, two.poll)
+        call = one.compare_and_write(3, bytes(1024), A1 + A1)
+        self.assertEqual(one.poll(call), Reply(ReplyKind.PENDING))
+        self.assertEqual(self.over(disk, one, call), Reply(ReplyKind.SWAPPED))
+        for reply, ask, *arguments in ((Reply(ReplyKind.DIFFERS), two.compare_and_write, 3, bytes(512), bytes(512)),
+                                       (Reply(ReplyKind.EQUAL), two.compare, 4, A1),
+                                       (Reply(ReplyKind.DIFFERS), two.compare, 4, bytes(512)),
+                                       (Reply(ReplyKind.WRITTEN), two.write_zeroes, 4),
+                                       (Reply(ReplyKind.READ, A1 + bytes(512)), two.read, 3, 2),
+                                       (Reply(ReplyKind.FAILED, status=(0, 0x80)), two.read, 8)):
+            self.assertEqual(self.over(disk, two, ask(*arguments)), reply)
         disk.close()
-        one.write(0, A1)
-        self.assertEqual(one.poll(), Reply(ReplyKind.PENDING))
+        self.assertEqual(one.poll(one.write(0, A1)), Reply(ReplyKind.PENDING))
         one.close()
         for call, arguments in ((disk.serve, (1,)), (disk.fetch, (1,)), (disk.task, ()),
                                 (disk.forget, ()), (disk.host, (1, 1)),
                                 (one.read, (0,)), (one.write, (0, A1)), (one.write_zeroes, (0,)),
-                                (one.compare, (0, A1)), (one.compare_and_write, (0, A1, A1)), (one.poll, ())):
+                                (one.compare, (0, A1)), (one.compare_and_write, (0, A1, A1)), (one.poll, (0,)),
+                                (one.give_up, (0,)), (one.waiting, ())):
             self.assertIsInstance(self.refused(Status.NO_HANDLE, call, *arguments), NoHandle)
+
+    def test_many_calls_of_one_host(self):
+        """64 commands are in flight, polled in another order than they were begun."""
+        with Disk(Config(blocks=8, sq_size=80, cq_size=80, jobs=80), 1) as disk, disk.host(7, 1) as host:
+            swap = host.compare_and_write(3, bytes(512), A1)
+            reads = [host.read(3) for _ in range(62)]
+            self.assertEqual(host.waiting(), (63, 0))
+            self.refused(Status.CALL_NO_ROOM, host.read, 3)
+            for _ in range(63):
+                disk.serve(1)
+            for read in reversed(reads):
+                while (reply := host.poll(read)).kind == ReplyKind.PENDING:
+                    pass
+                self.assertEqual(reply, Reply(ReplyKind.READ, A1))
+                self.refused(Status.NO_CALL, host.poll, read)
+            self.assertEqual((host.poll(swap), host.waiting()), (Reply(ReplyKind.SWAPPED), (0, 0)))
+
+    def test_calls_that_are_given_up(self):
+        """They have no number, and keep their CIDs until polls have reaped their completions."""
+        with Disk(Config(blocks=8, sq_size=80, cq_size=80, jobs=80), 1) as disk, disk.host(7, 1) as host:
+            swap = host.compare_and_write(3, bytes(512), A1)
+            reads = [host.read(3) for _ in range(62)]
+            host.give_up(swap)
+            for ask in (host.give_up, host.poll):
+                self.refused(Status.NO_CALL, ask, swap)
+            for _ in range(2):
+                self.assertEqual(host.waiting(), (62, 1))
+                self.refused(Status.CALL_NO_ROOM, host.read, 3)
+                disk.serve(1)
+            # the pair has its turn at each poll, and reaps a completion; the call that is polled reaps another
+            self.assertEqual(host.poll(reads[61]).kind, ReplyKind.PENDING)
+            self.assertEqual(host.poll(reads[0]), Reply(ReplyKind.READ, A1))
+            self.assertEqual(host.waiting(), (61, 0))
+            for _ in range(3):
+                host.read(3)
+            self.refused(Status.CALL_NO_ROOM, host.read, 3)
+            self.assertEqual(host.waiting(), (64, 0))
 
     def test_hosts_count_together(self):
         """Two hosts on threads of their own add to one block by Compare and Write, and no turn is lost."""
@@ -204,8 +232,8 @@ class Hosts(unittest.TestCase):
                 except Busy:
                     pass
 
-        def reply_of(host):
-            while (reply := ask(host.poll)).kind == ReplyKind.PENDING:
+        def reply_of(host, call):
+            while (reply := ask(host.poll, call)).kind == ReplyKind.PENDING:
                 pass
             return reply
 
@@ -213,12 +241,10 @@ class Hosts(unittest.TestCase):
             old, added = bytes(512), 0
             while added < 40:
                 new = (int.from_bytes(old[:2], "little") + 1).to_bytes(2, "little") + bytes(510)
-                ask(host.compare_and_write, 0, old, new)
-                if reply_of(host).kind == ReplyKind.SWAPPED:
+                if reply_of(host, ask(host.compare_and_write, 0, old, new)).kind == ReplyKind.SWAPPED:
                     old, added = new, added + 1
                 else:
-                    ask(host.read, 0)
-                    old = reply_of(host).data
+                    old = reply_of(host, ask(host.read, 0)).data
 
         with Disk(TWO, 2) as disk:
             hosts = [disk.host(queue, queue) for queue in (1, 2)]
@@ -231,8 +257,7 @@ class Hosts(unittest.TestCase):
                         disk.serve(queue)
                     except (Busy, Refused) as error:
                         self.assertIn(error.status, (Status.BUSY, Status.NO_ENTRY))
-            hosts[0].read(0)
-            self.assertEqual(self.over(disk, hosts[0]).data, (80).to_bytes(2, "little") + bytes(510))
+            self.assertEqual(self.over(disk, hosts[0], hosts[0].read(0)).data, (80).to_bytes(2, "little") + bytes(510))
 
 
 if __name__ == "__main__":

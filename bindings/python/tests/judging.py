@@ -18,10 +18,10 @@ def block_of(host, serial):
     return host.to_bytes(8, "little") + serial.to_bytes(8, "little") + bytes(496)
 
 
-def over(disk, host):
-    """Serves a host's queue, and polls until its call is over."""
+def over(disk, host, *call):
+    """Serves a host's queue, and polls until its call is over: of a slot host its only one, else the one of this number."""
     disk.serve(host.queue)
-    while (reply := host.poll()).kind.name == "PENDING":
+    while (reply := host.poll(*call)).kind.name == "PENDING":
         pass
     return reply
 
@@ -64,23 +64,20 @@ class Judging(unittest.TestCase):
         disk = Disk(THREE, 1)
         host = disk.host(1, 1)
         self.assertEqual((list(disk.history()), disk.history_count()), ([str(THREE)], 0))
-        host.write(5, A1)
-        over(disk, host)
+        over(disk, host, host.write(5, A1))
         lines = list(disk.history())
         self.assertEqual((len(lines), disk.history_count()), (7, 6))
         self.assertEqual(list(disk.history(3)), lines[3:])
         self.assertEqual((list(disk.history(7)), list(disk.history(9))), ([], []))
         # a piece that is longer than the first room, and a line that is longer too
-        host.write(0, bytes(range(256)) * 2 * 8)
-        over(disk, host)
+        over(disk, host, host.write(0, bytes(range(256)) * 2 * 8))
         self.assertGreater(len(list(disk.history(7))[0]), 8192)
         self.assertEqual((disk.medium(5), disk.medium(7)), (bytes(range(256)) * 2, bytes(range(256)) * 2))
         self.assertIsInstance(self.refused(Status.NO_BLOCK, disk.medium, 8), NoBlock)
         # a line at a time, while the history grows
         lines = disk.history(1)
         first = next(lines)
-        host.read(5)
-        over(disk, host)
+        over(disk, host, host.read(5))
         self.assertEqual([first, *lines], list(disk.history(1)))
         disk.close()
         for call in (disk.history_count, lambda: disk.medium(0), lambda: list(disk.history())):
@@ -103,17 +100,14 @@ class Judging(unittest.TestCase):
     def test_rules_that_hosts_break(self):
         disk = Disk(THREE, 2)
         one, two = disk.host(1, 1), disk.host(2, 2)
-        one.compare_and_write(3, FREE, block_of(1, 1))
-        over(disk, one)
+        over(disk, one, one.compare_and_write(3, FREE, block_of(1, 1)))
         before = disk.history_count()
         self.assertEqual(self.kept(disk, *SLOTS), (before, None))
-        two.compare_and_write(3, block_of(1, 1), FREE)
-        over(disk, two)
+        over(disk, two, two.compare_and_write(3, block_of(1, 1), FREE))
         words = "a release on another completion queue than its claim"
         self.assertEqual(self.kept(disk, *SLOTS), (before, SlotFault(before + 1, 3, words)))
         before = disk.history_count()
-        two.write(4, A1)
-        over(disk, two)
+        over(disk, two, two.write(4, A1))
         self.assertEqual(self.kept(disk, 4, 1), (before, SlotFault(before + 1, 4, ALONE)))
         self.assertEqual(self.kept(disk, 5, 1), (disk.history_count(), None))
 
@@ -129,10 +123,8 @@ class Judging(unittest.TestCase):
     def test_traces(self):
         disk = Disk(THREE, 2)
         one, two = disk.host(1, 1), disk.host(2, 2)
-        one.write(0, bytes(range(256)) * 2 * 3)
-        over(disk, one)
-        two.read(0, 3)
-        self.assertEqual(over(disk, two).data, bytes(range(256)) * 2 * 3)
+        over(disk, one, one.write(0, bytes(range(256)) * 2 * 3))
+        self.assertEqual(over(disk, two, two.read(0, 3)).data, bytes(range(256)) * 2 * 3)
         trace, history = list(disk.trace()), list(disk.history())
         self.assertEqual([line.split(" ")[0] for line in trace], ["config", "publish", "reap", "publish", "reap"])
         self.assertEqual(trace[4].split(" ")[-1], ".".join([(bytes(range(256)) * 2).hex().upper()] * 3))

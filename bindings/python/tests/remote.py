@@ -169,6 +169,26 @@ class Remote(unittest.TestCase):
             # its number and its CID are used again
             self.assertEqual((host.read(9), host.outgoing().entry.entry[2]), (last, 63))
 
+    def test_calls_that_are_given_up(self):
+        """They have no number, and keep their CIDs until polls took their completions, of each in its turn."""
+        with RemoteHost(1, 1) as host:
+            calls = [host.read(lba) for lba in range(64)]
+            for call in (calls[3], calls[9]):
+                host.give_up(call)
+                self.refused(Status.NO_CALL, host.give_up, call)
+            self.assertEqual(host.waiting(), (62, 2))
+            self.refused(Status.CALL_NO_ROOM, host.read, 0)
+            for cid, data in ((9, B2), (63, A1)):
+                host.incoming(success(cid), data)
+            # that of CID 3 has its turn, and takes the completion of CID 9; the call that is polled takes its own
+            self.assertEqual((host.poll(calls[63]), host.waiting()), (Reply(ReplyKind.READ, A1), (61, 2)))
+            # then that of CID 9, also where no call has the number that is polled
+            self.refused(Status.NO_CALL, host.poll, calls[63])
+            self.assertEqual(host.waiting(), (61, 1))
+            host.read(0), host.read(0)
+            self.refused(Status.CALL_NO_ROOM, host.read, 0)
+            self.assertEqual((host.waiting(), host.dropped()), ((63, 1), 0))
+
     def test_completions_that_no_call_is_owed_are_dropped(self):
         with RemoteHost(1, 1) as host:
             one, two = host.read(0), host.read(1)
@@ -192,7 +212,8 @@ class Remote(unittest.TestCase):
         for it in (host, slots, host, slots):
             it.close()
         for it, *arguments in ((host.read, 0), (host.write, 0, A1), (host.write_zeroes, 0), (host.compare, 0, A1),
-                               (host.compare_and_write, 0, A1, B2), (host.poll, call), (host.outgoing,),
+                               (host.compare_and_write, 0, A1, B2), (host.poll, call), (host.give_up, call),
+                               (host.waiting,), (host.outgoing,),
                                (host.incoming, success(0)), (host.dropped,), (slots.claim, 0), (slots.claim_any,),
                                (slots.release, 0), (slots.take_over, 0, Name(2, 1)), (slots.ask_holder, 0),
                                (slots.poll,), (slots.outgoing,), (slots.incoming, success(0)), (slots.dropped,)):

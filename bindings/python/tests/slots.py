@@ -51,17 +51,17 @@ class Slots(unittest.TestCase):
         self.assertEqual(isinstance(caught.exception, SlotRefused), 118 <= status <= 123)
         return caught.exception
 
-    def ended(self, host):
-        """Polls until the call of a host, of either kind, is over."""
-        while (reply := host.poll()).kind.name == "PENDING":
+    def ended(self, host, *call):
+        """Polls until the call of a host is over: of a slot host its only one, else the one of this number."""
+        while (reply := host.poll(*call)).kind.name == "PENDING":
             pass
-        self.refused(Status.NO_CALL, host.poll)
+        self.refused(Status.NO_CALL, host.poll, *call)
         return reply
 
-    def over(self, disk, host):
+    def over(self, disk, host, *call):
         """Serves a host's queue, and polls until its call is over."""
         disk.serve(host.queue)
-        return self.ended(host)
+        return self.ended(host, *call)
 
     def test_what_no_disk_with_slots_is_made_of(self):
         bad = Config(jobs=0)
@@ -136,8 +136,7 @@ class Slots(unittest.TestCase):
                 for queue in (1, 2, 3, 4):
                     for make in (disk.slot_host, disk.host):
                         self.refused(Status.USED_QUEUE, make, 3, queue)
-                two.read(FIRST)
-                self.assertEqual(self.over(disk, two).kind, ReplyKind.READ)
+                self.assertEqual(self.over(disk, two, two.read(FIRST)).kind, ReplyKind.READ)
 
     def test_a_plain_host_over_a_held_slot(self):
         """It reads what is there, but writes only beside it, though it names what it read."""
@@ -147,8 +146,7 @@ class Slots(unittest.TestCase):
                 self.assertEqual(self.over(disk, one), held(slot))
             # the first slot and the last one, alone and at the end of a range
             for lba, blocks in ((FIRST, 1), (FIRST - 1, 2), (LAST, 1), (LAST, 2)):
-                two.read(lba, blocks)
-                found, zeros = self.over(disk, two).data, bytes(512 * blocks)
+                found, zeros = self.over(disk, two, two.read(lba, blocks)).data, bytes(512 * blocks)
                 self.assertIn(block_of(1, 1 if lba < LAST else 2), (found[:512], found[-512:]))
                 for call, *arguments in ((two.write, zeros), (two.write_zeroes, blocks),
                                          (two.compare_and_write, found, zeros)):
@@ -161,8 +159,7 @@ class Slots(unittest.TestCase):
                 for kind, call, *arguments in ((ReplyKind.WRITTEN, two.write, data),
                                                (ReplyKind.SWAPPED, two.compare_and_write, data, bytes(512)),
                                                (ReplyKind.WRITTEN, two.write_zeroes, 1)):
-                    call(lba, *arguments)
-                    self.assertEqual(self.over(disk, two), Reply(kind))
+                    self.assertEqual(self.over(disk, two, call(lba, *arguments)), Reply(kind))
             for slot, serial in ((0, 1), (COUNT - 1, 2)):
                 self.refused(Status.HELD, one.claim, slot)
                 one.ask_holder(slot)
@@ -343,8 +340,7 @@ class Slots(unittest.TestCase):
     def test_a_block_is_zeros_or_a_name(self):
         with Disk(TWO, 2, slots=SLOTS) as disk, disk.slot_host(1, 1) as one, disk.host(2, 2) as two:
             def has(data):
-                two.read(FIRST)
-                self.assertEqual(self.over(disk, two), Reply(ReplyKind.READ, data))
+                self.assertEqual(self.over(disk, two, two.read(FIRST)), Reply(ReplyKind.READ, data))
                 self.refused(Status.CALL_SLOT_AREA, two.write, FIRST, b"\xEE" * 512)
 
             has(bytes(512))

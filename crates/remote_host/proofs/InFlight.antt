@@ -19,11 +19,11 @@ use Rattle.driver_cas.specs.declared.port.Port.{Ghosts}
 use Rattle.driver_cas.proofs.Starting.{start_keeps}
 use Rattle.remote_host.specs.Calls.{AreCallsOf, IsKept, IsPutBack}
 
-none_some : {A : Type 0} {x : A} → None ≡ Some x → ⊥
+pub none_some : {A : Type 0} {x : A} → None ≡ Some x → ⊥
 none_some h = let a = h in cc
 
 -- what is under a number after an update: it is the one that was updated, or that before
-under : {A : Type 0} (old new : Slab A) (n : ℕ) (o : Option A) → Updates old new n o → (m : ℕ) (x : A)
+pub under : {A : Type 0} (old new : Slab A) (n : ℕ) (o : Option A) → Updates old new n o → (m : ℕ) (x : A)
     → get new m ≡ Some x → ((m ≡ n) × (o ≡ Some x)) ⊎ ((m ≢ n) × (get old m ≡ Some x))
 under {A} old new n o u m x is =
     elim (cases_eq m n) [
@@ -32,7 +32,7 @@ under {A} old new n o u m x is =
     ]
 
 module _ {P : Type 0} where
-  apart_back : (k j : Call P) → SharesNoCid k j → SharesNoCid j k
+  pub apart_back : (k j : Call P) → SharesNoCid k j → SharesNoCid j k
   apart_back k j h q cid its = elim (cases_Bool (is_its_cid k.op k.queue k.first k.second q cid)) [
     | inr e ↦ e
     | inl e ↦ clash (is_its_cid j.op j.queue j.first j.second q cid) its (h q cid e)
@@ -71,7 +71,7 @@ module _ {P : Type 0} where
   room_left mid new (Poll.Failed f) room h is = subst (λ (s : Slab (Call P)). HasRoomFor s 1) (sym h) room
 
   -- the call that comes back is the one that was polled
-  same_back : (k j : Call P) (poll : Poll P) → IsBack k poll → call_given_back poll ≡ Some j → j ≡ k
+  pub same_back : (k j : Call P) (poll : Poll P) → IsBack k poll → call_given_back poll ≡ Some j → j ≡ k
   same_back k j (Poll.Pending i) back is = sym (some_one i j is) ∙ back
   same_back k j (Poll.Later f i) back is = sym (some_one i j is) ∙ back.0
   same_back k j (Poll.Done r) back is = absurd (none_some is)
@@ -149,3 +149,10 @@ module _ {P : Type 0} {g : Ghosts P} where
         λ i one. subst (λ (c : Call P). SharesNoCid c j) (sym (same_back k i poll back one))
             (h.apart n m k j (λ x. ne (sym x)) at is),
       ))
+
+  -- the call with this number is one of them no more
+  pub one_less : (d : Driver P g) (old new : Slab (Call P)) (n : ℕ) → Updates old new n None → AreCallsOf d old
+      → AreCallsOf d new
+  one_less d old new n u h =
+      one_changes d d old new n None u h (λ k is. absurd (none_some is))
+      (λ m j ne is. (h.all m j is, λ k one. absurd (none_some one)))

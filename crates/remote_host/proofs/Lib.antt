@@ -1,3 +1,5 @@
 pub mod Laters
 pub mod InFlight
-pub mod Kept
+pub mod GivenUp
+pub mod Keeping
+pub mod AtOnce

@@ -11,7 +11,7 @@ use std::test::Fail;
 
 /// What a poll told, in words.
 #[derive(Clone, Copy, Debug, PartialEq, Eq)]
-enum Told {
+pub(crate) enum Told {
     /// No call has the number.
     Nobody,
     Pending,
@@ -48,7 +48,7 @@ struct Sent {
 }
 
 /// A host with one submission queue, of number 1, and no slot. Its pairs have two blocks at most.
-fn host_of(alloc: Global) -> Result<RemoteHost, Fail> {
+pub(crate) fn host_of(alloc: Global) -> Result<RemoteHost, Fail> {
     let none = Range { slba: 0, blocks: 0 };
     let queues = [1].to_vec(alloc)?;
     Ok(RemoteHost::new(alloc, 1, 1, none, queues)?)
@@ -85,7 +85,7 @@ fn taken(host: &mut RemoteHost) -> Option<Sent> {
 }
 
 /// A completion with success for the command with this CID of submission queue 1 (Base 2.0, Completion Queue Entry).
-fn good(cid: u8) -> [u8; 16] {
+pub(crate) fn good(cid: u8) -> [u8; 16] {
     [0, 0, 0, 0, 0, 0, 0, 0, 1, 0, 1, 0, cid, 0, 1, 0]
 }
 
@@ -100,7 +100,7 @@ fn reserved(cid: u8) -> [u8; 16] {
 }
 
 /// Brings a completion with these data; whether it was.
-fn brings(alloc: Global, host: &mut RemoteHost, cqe: [u8; 16], bytes: &[u8]) -> bool {
+pub(crate) fn brings(alloc: Global, host: &mut RemoteHost, cqe: [u8; 16], bytes: &[u8]) -> bool {
     match Payload::copy_of(alloc, bytes) {
         Ok(payload) => host.incoming(cqe, payload).is_ok(),
         Err(_) => false,
@@ -120,7 +120,7 @@ fn replied(reply: Reply) -> Told {
     }
 }
 
-fn polled(host: &mut RemoteHost, number: u32) -> Told {
+pub(crate) fn polled(host: &mut RemoteHost, number: u32) -> Told {
     match host.poll(number) {
         None => Told::Nobody,
         Some(Polled::Pending) => Told::Pending,

@@ -6,45 +6,46 @@ ghost use Rattle.driver_calls.specs.declared.request.CallData.{CallData};
 ghost use Rattle.driver_cas.specs.Requests.{pair_request_of, request_of};
 ghost use Rattle.nvme_model.specs.declared.operation.Op.{Op};
 
-use crate::calls::{keep, next_number, put_back};
+use crate::call_host::CallHost;
 use crate::carry::{Bring, TakeAway};
-use crate::polled::Polled;
+use crate::polled::{NotGivenUp, Polled, Waiting};
 use crate::port::{Outgoing, RemotePort};
-use driver_cas::{Call, Driver, Fault};
+use driver_cas::{Driver, Fault};
 use nvme_model::array::Range;
 use nvme_model::submission::Payload;
-use slab::Slab;
 use std::alloc::{AllocError as NoMemory, Global};
 use std::marker::Model;
 
 /// A host whose commands are carried to a controller that is somewhere else: a driver over two queues in memory, with
-/// its calls in flight, each under a number. The number of a call that was answered is used again.
+/// its calls in flight, each under a number.
 #[derive(Drop)]
 pub struct RemoteHost {
-    driver: Driver<RemotePort>,
-    calls: Slab<Call<RemotePort>>,
+    host: CallHost<RemotePort>,
 }
 
 impl Model for RemoteHost {
-    ghost use Rattle.remote_host.specs.HostStates.{HostState};
-    ghost use Rattle.remote_host.specs.Calls.{AreCallsOf};
+    ghost use Rattle.remote_host.specs.HostStates.{state_of};
+    ghost use Rattle.remote_host.specs.RemoteStates.{RemoteState};
+    ghost use Rattle.remote_host.specs.Calls.{KeepsCalls};
     ghost use Rattle.remote_host.specs.contracts.port.Done as done;
     ghost use Rattle.std.specs.Coded.{codes};
 
-    ghost Value = { HostState };
+    ghost Value = { RemoteState };
 
     ghost coded = { Prim.hlevel (codes, done.the_row.coded) };
 
-    ghost view = { λ h. record { driver = h.driver; calls = h.calls } };
+    ghost view = { λ h. state_of h.host };
 
-    ghost invariant = { λ h. AreCallsOf h.driver h.calls };
+    ghost invariant = { λ h. KeepsCalls (state_of h.host) };
 }
 
 impl RemoteHost {
     ghost use Rattle.driver_cas.specs.Drivers.{acwu_of, area_of, made, port_of};
     ghost use Rattle.driver_cas.specs.Dropped.{drop_count};
     ghost use Rattle.driver_cas.specs.Starts.{IsUntouched};
-    ghost use Rattle.remote_host.specs.Hosts.{IsHandedIn, IsNewHost, PollTells, StartTells};
+    ghost use Rattle.slab.specs.Slab.{slab_len};
+    ghost use Rattle.remote_host.specs.Hosts.{GiveUpTells, PollTells};
+    ghost use Rattle.remote_host.specs.Remotes.{IsHandedIn, IsNewRemote, IsNotLater, RemoteStartTells};
     ghost use Rattle.remote_host.specs.Queues.{IsTakenAway, to_carry};
 
     /// A host with this number, from 1 on, on these submission queues in rising order. No call is in flight. A Compare
@@ -65,12 +66,13 @@ impl RemoteHost {
         requires slots { slots.slba + slots.blocks ≤ 65536 }
         requires some { 1 ≤ length queues.items }
         requires rising { IsStrictlyIncreasing queues.items }
-        ensures { IfOk result (IsNewHost host acwu slots queues.items) }
+        ensures { IfOk result (IsNewRemote host acwu slots queues.items) }
     {
         let port = RemotePort::new(alloc);
-        let calls = Slab::new(alloc);
         match Driver::new(alloc, port, host, acwu, slots, queues) {
-            Ok(driver) => Ok(RemoteHost { driver, calls }),
+            Ok(driver) => Ok(RemoteHost {
+                host: CallHost::new(alloc, driver),
+            }),
             Err((_, _, why)) => Err(why),
         }
     }
@@ -82,15 +84,11 @@ impl RemoteHost {
     /// The first that holds: `NoMemory` where there is no room for one call more; `Length` of no block; `TooLong` of
     /// more than 256; `RingFull` where too few CIDs are free; `NoMemory`. Nothing was published.
     pub fn start_read(&mut self, slba: u64, blocks: u32) -> Result<u32, Fault>
-        ensures { StartTells self.old self.new
+        ensures { RemoteStartTells self.old self.new
             (request_of (acwu_of self.old.driver) (area_of self.old.driver) Op.Read slba (512 * blocks))
             (CallData.One []) result }
     {
-        let Some(number) = next_number(&mut self.calls) else {
-            return Err(Fault::NoMemory);
-        };
-        let started = self.driver.start_read(slba, blocks);
-        keep(&mut self.calls, number, started)
+        self.host.start_read(slba, blocks)
     }
 
     /// Begins to write zeros to so many blocks from block `slba` on, and tells the number of the call.
@@ -99,15 +97,11 @@ impl RemoteHost {
     ///
     /// As `start_read`, and `SlotArea` behind `TooLong`.
     pub fn start_write_zeroes(&mut self, slba: u64, blocks: u32) -> Result<u32, Fault>
-        ensures { StartTells self.old self.new
+        ensures { RemoteStartTells self.old self.new
             (request_of (acwu_of self.old.driver) (area_of self.old.driver) Op.WriteZeroes slba (512 * blocks))
             (CallData.One []) result }
     {
-        let Some(number) = next_number(&mut self.calls) else {
-            return Err(Fault::NoMemory);
-        };
-        let started = self.driver.start_write_zeroes(slba, blocks);
-        keep(&mut self.calls, number, started)
+        self.host.start_write_zeroes(slba, blocks)
     }
 
     /// Begins to write this data, 512 bytes a block, from block `slba` on, and tells the number of the call.
@@ -116,15 +110,11 @@ impl RemoteHost {
     ///
     /// As `start_write_zeroes`; `Length` also of data that isn't whole blocks.
     pub fn start_write(&mut self, slba: u64, contents: &[u8]) -> Result<u32, Fault>
-        ensures { StartTells self.old self.new
+        ensures { RemoteStartTells self.old self.new
             (request_of (acwu_of self.old.driver) (area_of self.old.driver) Op.Write slba (length contents.now))
             (CallData.One contents.now) result }
     {
-        let Some(number) = next_number(&mut self.calls) else {
-            return Err(Fault::NoMemory);
-        };
-        let started = self.driver.start_write(slba, contents);
-        keep(&mut self.calls, number, started)
+        self.host.start_write(slba, contents)
     }
 
     /// Begins to compare this data, 512 bytes a block, with the blocks from block `slba` on, and tells the number of
@@ -134,15 +124,11 @@ impl RemoteHost {
     ///
     /// As `start_write`, without `SlotArea`.
     pub fn start_compare(&mut self, slba: u64, contents: &[u8]) -> Result<u32, Fault>
-        ensures { StartTells self.old self.new
+        ensures { RemoteStartTells self.old self.new
             (request_of (acwu_of self.old.driver) (area_of self.old.driver) Op.Compare slba (length contents.now))
             (CallData.One contents.now) result }
     {
-        let Some(number) = next_number(&mut self.calls) else {
-            return Err(Fault::NoMemory);
-        };
-        let started = self.driver.start_compare(slba, contents);
-        keep(&mut self.calls, number, started)
+        self.host.start_compare(slba, contents)
     }
 
     /// Begins to write the desired data to the blocks from block `slba` on where they hold the expected data, as one
@@ -158,40 +144,56 @@ impl RemoteHost {
         expected: &[u8],
         desired: &[u8],
     ) -> Result<u32, Fault>
-        ensures { StartTells self.old self.new
+        ensures { RemoteStartTells self.old self.new
             (pair_request_of (acwu_of self.old.driver) (area_of self.old.driver) slba (length expected.now)
             (length desired.now)) (CallData.Two expected.now desired.now) result }
     {
-        let Some(number) = next_number(&mut self.calls) else {
-            return Err(Fault::NoMemory);
-        };
-        let started = self.driver.start_compare_and_write(slba, expected, desired);
-        keep(&mut self.calls, number, started)
+        self.host.start_compare_and_write(slba, expected, desired)
     }
 
-    /// Polls the call with this number; None where no call has it. Reaps at most one of the completions that were
-    /// brought, of this call or of another; one that no call is owed is dropped, and counted. A call that is answered
-    /// has no number any more.
+    /// Polls the call with this number; None where no call has it. Before that one of the calls that were given up is
+    /// polled, if there are any, each in its turn. Each of the two polls reaps at most one of the completions that were
+    /// brought, of whichever call; one that no call is owed is dropped, and counted. A call that is answered has no
+    /// number any more.
     pub fn poll(&mut self, number: u32) -> Option<Polled>
-        ensures { PollTells self.old self.new number result }
+        ensures polls { PollTells self.old self.new number result }
+        ensures not_later { IsNotLater result }
     {
-        let call = self.calls.try_remove(number as usize)?;
-        let poll = self.driver.poll(call);
-        Some(put_back(&mut self.calls, poll))
+        self.host.poll(number)
+    }
+
+    /// Gives up the call with this number, which is free then. What the call does is done or not, and nobody is told.
+    /// Its CIDs stay in use until its completions were brought, and polls took them.
+    ///
+    /// # Errors
+    ///
+    /// `NoCall` where no call has the number, else `NoMemory` where a growth is refused. Nothing has changed.
+    pub fn give_up(&mut self, number: u32) -> Result<(), NotGivenUp>
+        ensures { GiveUpTells self.old self.new number result }
+    {
+        self.host.give_up(number)
+    }
+
+    /// How many calls the host waits for.
+    pub fn waiting(&self) -> Waiting
+        ensures calls { result.calls ≡ slab_len self.now.calls }
+        ensures given_up { result.given_up ≡ length self.now.given_up }
+    {
+        self.host.waiting()
     }
 
     /// How many of the completions that were reaped no command waited for.
     pub fn dropped(&self) -> u64
         ensures { result ≡ drop_count (made self.now.driver) }
     {
-        self.driver.dropped()
+        self.host.driver().dropped()
     }
 
     /// The entry that is to be carried to the controller next, where it stays; None where there is none.
     pub fn peek(&self) -> Option<&Outgoing>
         ensures { option_copied result ≡ slice_get (to_carry (port_of self.now.driver)) 0 }
     {
-        self.driver.port().peek()
+        self.host.driver().port().peek()
     }
 
     /// Takes away the entry that was published first of those that are there, to be carried to the controller; None
@@ -199,9 +201,10 @@ impl RemoteHost {
     pub fn outgoing(&mut self) -> Option<Outgoing>
         ensures untouched { IsUntouched self.old.driver self.new.driver }
         ensures calls { self.new.calls ≡ self.old.calls }
+        ensures given_up { self.new.given_up ≡ self.old.given_up }
         ensures taken { IsTakenAway (port_of self.old.driver) (port_of self.new.driver) result }
     {
-        self.driver.attend(TakeAway)
+        self.host.attend(TakeAway)
     }
 
     /// Brings a completion of the controller, with what a successful Read read, else an empty payload. A poll reaps it
@@ -214,9 +217,10 @@ impl RemoteHost {
     pub fn incoming(&mut self, cqe: [u8; 16], payload: Payload) -> Result<(), Payload>
         ensures untouched { IsUntouched self.old.driver self.new.driver }
         ensures calls { self.new.calls ≡ self.old.calls }
+        ensures given_up { self.new.given_up ≡ self.old.given_up }
         ensures brought { IsHandedIn (port_of self.old.driver) (port_of self.new.driver) cqe payload result }
     {
-        match self.driver.attend(Bring { cqe, payload }) {
+        match self.host.attend(Bring { cqe, payload }) {
             Ok(()) => Ok(()),
             Err((payload, _)) => Err(payload),
         }

@@ -1,6 +1,7 @@
-//! What polling a call by its number gives.
+//! What comes of a call by its number, and how many there are.
 
 use driver_cas::{Fault, Reply};
+use thiserror::Error;
 
 /// What polling a call gives. One that is pending or put off keeps its number.
 #[derive(Drop)]
@@ -12,4 +13,24 @@ pub enum Polled {
     Done(Reply),
     /// Its status is another than those that a reply tells.
     Failed(Fault),
+}
+
+/// Why a call isn't given up.
+#[derive(Clone, Copy, Debug, Drop, Error, PartialEq, Eq)]
+pub enum NotGivenUp {
+    /// No call has the number.
+    #[error("no call has this number")]
+    NoCall,
+    /// A growth was refused.
+    #[error("no memory")]
+    NoMemory,
+}
+
+/// How many calls a host waits for.
+#[derive(Clone, Copy, Debug, PartialEq, Eq)]
+pub struct Waiting {
+    /// Those that have a number.
+    pub calls: usize,
+    /// Those that were given up and keep their CIDs.
+    pub given_up: usize,
 }

@@ -3,7 +3,6 @@ mod Batches
 mod LinesLooked
 mod PieceGiven
 mod Ready
-mod Calls
 mod HostSent
 mod RemoteSent
 mod RemoteLooked

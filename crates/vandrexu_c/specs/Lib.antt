@@ -9,6 +9,7 @@ pub mod Steps
 pub mod TextCalls
 pub mod Tracers
 pub mod HostStates
+pub mod Calls
 pub mod Hosts
 pub mod HostMaking
 pub mod HostReplies

@@ -1,19 +1,17 @@
 -- What contracts say of a remote host.
-use Rattle.std.specs.Prelude.{Err, List, None, Ok, Option, Result, Some, [], drop, length, slice_get, ℕ, ◌+◌, ◌++◌, ◌<◌}
-use Rattle.std.specs.Prelude.{◌∷◌, ◌≡◌, ◌≤◌, ◌⊎◌}
+use Rattle.std.specs.Prelude.{List, None, Result, Some, [], drop, length, slice_get, ℕ, ◌+◌, ◌++◌, ◌<◌, ◌∷◌, ◌≡◌, ◌≤◌}
+use Rattle.std.specs.Prelude.{◌⊎◌}
 use Rattle.nvme_model.specs.declared.array.Range.{Range}
-use Rattle.driver_calls.specs.declared.reply.Reply.{Reply}
 use Rattle.driver_calls.specs.declared.request.CallData.{CallData}
 use Rattle.driver_calls.specs.declared.request.Request.{Request}
-use Rattle.driver_cas.specs.Faults.{call_fault_number}
 use Rattle.driver_cas.specs.Starts.{IsUntouched}
 use Rattle.driver_cas.specs.declared.fault.Fault.{Fault}
-use Rattle.remote_host.specs.Hosts as remote
+use Rattle.remote_host.specs.Remotes as remote
+use Rattle.remote_host.specs.Remotes.{IsNotLater}
 use Rattle.remote_host.specs.Queues.{IsBehind, IsTakenAway, SameQueues, to_carry}
-use Rattle.remote_host.specs.declared.polled.Polled.{Polled}
 use Rattle.remote_host.specs.declared.port.Outgoing.{Outgoing}
 use Rattle.remote_host.specs.declared.port.RemotePort.{RemotePort}
-use Rattle.vandrexu_c.specs.HostReplies.{done_kind, failed_reply, plain_reply}
+use Rattle.vandrexu_c.specs.Calls.{CallPolls, NumberTold}
 use Rattle.vandrexu_c.specs.RemoteStates.{RemoteState, remote_port}
 use Rattle.vandrexu_c.specs.declared.carrying.OutgoingEntry.{OutgoingEntry}
 use Rattle.vandrexu_c.specs.declared.host_reply.HostReply.{HostReply}
@@ -22,7 +20,7 @@ use Rattle.vandrexu_c.specs.declared.host_reply.HostReply.{HostReply}
 
 -- a new host with these settings, on this submission queue, which has read nothing
 pub record IsNewRemote (number acwu queue : ℕ) (slots : Range) (r : RemoteState) : Type 0 where
-  pub host : remote.IsNewHost number acwu slots (queue ∷ []) r.host
+  pub host : remote.IsNewRemote number acwu slots (queue ∷ []) r.host
   pub nothing_read : r.payload ≡ []
 
 -- a host and a submission queue have such numbers
@@ -40,45 +38,18 @@ MayRefuseRemote number queue slots told =
 
 -- ---- its calls
 
--- what a start call tells: 0 and the number of the call, or that of the fault
-abbrev pub NumberTold : Result ℕ Fault → ℕ → ℕ → ℕ → Type 0
-NumberTold (Ok n) told old new = (told ≡ 0) × (new ≡ n)
-NumberTold (Err f) told old new = (told ≡ call_fault_number f) × (new ≡ old)
-
 -- a call was asked of the host, and this is told
 pub record RemoteStarts (r s : RemoteState) (asked : Result Request Fault) (contents : CallData) (told old new : ℕ)
     : Type 0 where
   pub answer : Result ℕ Fault
-  pub starts : remote.StartTells r.host s.host asked contents answer
+  pub starts : remote.RemoteStartTells r.host s.host asked contents answer
   pub told_is : NumberTold answer told old new
   pub payload : s.payload ≡ r.payload
 
--- the number of a poll: 0, that of its fault, or 117 where no call was polled
-abbrev pub polled_number : Option Polled → ℕ
-polled_number None = 117
-polled_number (Some Polled.Pending) = 0
-polled_number (Some (Polled.Later f)) = call_fault_number f
-polled_number (Some (Polled.Done r)) = 0
-polled_number (Some (Polled.Failed f)) = call_fault_number f
-
--- and its reply
-abbrev pub polled_reply : Option Polled → HostReply
-polled_reply (Some (Polled.Done r)) = plain_reply (done_kind r)
-polled_reply (Some (Polled.Failed f)) = failed_reply f
-polled_reply _ = plain_reply 1
-
--- what was read last, where that was these bytes before
-abbrev pub polled_read : Option Polled → List ℕ → List ℕ
-polled_read (Some (Polled.Done (Reply.Read payload))) before = payload
-polled_read _ before = before
-
--- the call with this number was polled, and this is told
+-- the call with this number was polled, and this is told; no poll is put off
 pub record RemotePolls (r s : RemoteState) (n told : ℕ) (reply : HostReply) : Type 0 where
-  pub polled : Option Polled
-  pub is : remote.PollTells r.host s.host n polled
-  pub number : told ≡ polled_number polled
-  pub reply_is : reply ≡ polled_reply polled
-  pub payload : s.payload ≡ polled_read polled r.payload
+  pub call : CallPolls r s n told reply
+  pub at_once : IsNotLater call.polled
 
 -- ---- what is carried
 
@@ -107,6 +78,7 @@ pub record GivesNext (a b : RemotePort) (told : ℕ) (old new : OutgoingEntry) (
 pub record RemoteGives (r s : RemoteState) (told : ℕ) (old new : OutgoingEntry) (room filled : List ℕ) : Type 0 where
   pub untouched : IsUntouched r.host.driver s.host.driver
   pub calls : s.host.calls ≡ r.host.calls
+  pub given_up : s.host.given_up ≡ r.host.given_up
   pub payload : s.payload ≡ r.payload
   pub next : GivesNext (remote_port r) (remote_port s) told old new room filled
 
@@ -118,5 +90,6 @@ TakesIn a b cqe payload told = ((told ≡ 0) × IsBehind a b cqe payload) ⊎ ((
 pub record RemoteTakes (r s : RemoteState) (cqe payload : List ℕ) (told : ℕ) : Type 0 where
   pub untouched : IsUntouched r.host.driver s.host.driver
   pub calls : s.host.calls ≡ r.host.calls
+  pub given_up : s.host.given_up ≡ r.host.given_up
   pub read : s.payload ≡ r.payload
   pub takes : TakesIn (remote_port r) (remote_port s) cqe payload told

@@ -11,6 +11,7 @@ use crate::host_handle::HostHandle;
 use c_handles::numbers::NO_MEMORY;
 use c_handles::{Disk, give_driver, note_host, take_back};
 use driver_cas::{Driver, SharedPort};
+use remote_host::CallHost;
 use std::alloc::Global;
 
 // A host in a box; the driver, where memory is refused.
@@ -22,15 +23,14 @@ fn host_of(
     ensures back { IfErr result (λ d. d ≡ driver.entry) }
 {
     let host = DrivenHost {
-        driver,
-        call: None,
+        host: CallHost::new(alloc, driver),
         payload: Vec::new(alloc),
     };
     match Box::new(alloc, host) {
         Ok(host) => Ok(host),
         Err(refused) => {
             let host = refused.value;
-            Err(host.driver)
+            Err(host.host.into_driver())
         }
     }
 }

@@ -1,9 +1,9 @@
 //! What a call that is polled tells, as it lies in C.
 
 ghost use Rattle.std.specs.Prelude.{◌≡◌};
-ghost use Rattle.vandrexu_c.specs.HostReplies.{done_kind, failed_reply, plain_reply, poll_number, host_reply_of};
+ghost use Rattle.vandrexu_c.specs.HostReplies.{done_kind, failed_reply, plain_reply};
 
-use driver_cas::{Fault, Poll, Reply};
+use driver_cas::{Fault, Reply};
 
 pub(crate) const PENDING: u32 = 1;
 
@@ -83,25 +83,4 @@ pub(crate) fn failed_in(fault: Fault) -> HostReply
     ensures { result ≡ failed_reply fault }
 {
     failed!(HostReply, fault)
-}
-
-/// What a poll tells.
-pub(crate) fn reply_in<P>(polled: &Poll<P>) -> HostReply
-    ensures { result ≡ host_reply_of polled.now }
-{
-    match polled {
-        Poll::Pending(_) | Poll::Later(_, _) => plain(PENDING),
-        Poll::Done(reply) => plain(kind_in(reply)),
-        Poll::Failed(fault) => failed_in(*fault),
-    }
-}
-
-/// The number of a poll: 0, or that of its fault.
-pub(crate) fn number_in<P>(polled: &Poll<P>) -> u32
-    ensures { result ≡ poll_number polled.now }
-{
-    match polled {
-        Poll::Pending(_) | Poll::Done(_) => 0,
-        Poll::Later(fault, _) | Poll::Failed(fault) => u32::from(fault.number()),
-    }
 }

@@ -4,6 +4,7 @@
 
 mod answers;
 mod batch;
+mod call_told;
 mod carrying;
 mod checker;
 mod configuration;

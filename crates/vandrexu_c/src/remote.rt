@@ -1,15 +1,16 @@
 //! What the handle of a remote host owns.
 
-ghost use Rattle.std.specs.Prelude.{◌≡◌, ◌≤◌, ◌+◌, IfErr, IfOk};
-ghost use Rattle.vandrexu_c.specs.Remotes.{MayRefuseRemote, NumberTold, polled_number, polled_read, polled_reply};
+ghost use Rattle.std.specs.Prelude.{◌≤◌, ◌+◌, IfErr, IfOk};
+ghost use Rattle.vandrexu_c.specs.Remotes.{MayRefuseRemote};
 
+use crate::call_told::{given_up_number, polled_told};
 use crate::carrying::{OutgoingEntry, tell_entry};
-use crate::host_reply::{HostReply, PENDING, failed_in, kind_in, plain};
-use crate::numbers::{BAD_AREA, NO_CALL, TOO_SMALL};
+use crate::host_reply::HostReply;
+use crate::numbers::{BAD_AREA, TOO_SMALL};
 use c_handles::numbers::{BAD_NUMBER, NO_MEMORY, NO_QUEUE, NOTHING_READY};
 use nvme_model::array::Range;
 use nvme_model::submission::Payload;
-use remote_host::{Fault, Polled, RemoteHost, Reply};
+use remote_host::RemoteHost;
 use std::alloc::Global;
 use std::marker::Model;
 
@@ -32,50 +33,6 @@ impl Model for DrivenRemote {
     ghost view = { λ r. record { host = r.host; payload = r.payload.items } };
 }
 
-/// The number of a start call that was answered so, and where it was started the number of the call.
-pub(crate) fn number_told(started: Result<u32, Fault>, call: &mut u32) -> u32
-    ensures { NumberTold started result call.old call.new }
-{
-    match started {
-        Ok(number) => {
-            *call = number;
-            0
-        }
-        Err(fault) => u32::from(fault.number()),
-    }
-}
-
-// The number of a poll.
-fn number_in(polled: &Option<Polled>) -> u32
-    ensures { result ≡ polled_number polled.now }
-{
-    match polled {
-        None => NO_CALL,
-        Some(Polled::Pending | Polled::Done(_)) => 0,
-        Some(Polled::Later(fault) | Polled::Failed(fault)) => u32::from(fault.number()),
-    }
-}
-
-// What it tells.
-fn reply_in(polled: &Option<Polled>) -> HostReply
-    ensures { result ≡ polled_reply polled.now }
-{
-    match polled {
-        None | Some(Polled::Pending | Polled::Later(_)) => plain(PENDING),
-        Some(Polled::Done(reply)) => plain(kind_in(reply)),
-        Some(Polled::Failed(fault)) => failed_in(*fault),
-    }
-}
-
-// Keeps what was read, if something was.
-fn keep_read(last: &mut Vec<u8>, polled: Option<Polled>)
-    ensures { last.new.items ≡ polled_read polled last.old.items }
-{
-    if let Some(Polled::Done(Reply::Read(payload))) = polled {
-        *last = payload.into_vec();
-    }
-}
-
 // Why there is no host with this number on this submission queue with these slots: the number of the answer.
 fn refusal_of(number: u32, queue: u16, slots: Range) -> Result<(), u32>
     ensures none { IfOk result (λ _. (1 ≤ number) × (1 ≤ queue) × (slots.slba + slots.blocks ≤ 65536)) }
@@ -94,6 +51,7 @@ fn refusal_of(number: u32, queue: u16, slots: Range) -> Result<(), u32>
 }
 
 impl DrivenRemote {
+    ghost use Rattle.vandrexu_c.specs.Calls.{CallGivenUp};
     ghost use Rattle.vandrexu_c.specs.Remotes.{AreNumbers, IsNewRemote, RemoteGives, RemotePolls, RemoteTakes};
 
     /// A host with this number on this submission queue.
@@ -131,9 +89,14 @@ impl DrivenRemote {
         ensures { RemotePolls self.old self.new number result.0 result.1 }
     {
         let polled = self.host.poll(number);
-        let told = (number_in(&polled), reply_in(&polled));
-        keep_read(&mut self.payload, polled);
-        told
+        polled_told(&mut self.payload, polled)
+    }
+
+    /// Gives up the call with this number: the number of the answer.
+    pub(crate) fn give_up(&mut self, number: u32) -> u32
+        ensures { CallGivenUp self.old self.new number result }
+    {
+        given_up_number(self.host.give_up(number))
     }
 
     /// Tells the next entry that is to be carried, with its data: the number of the answer.

@@ -7,16 +7,19 @@ ghost use Rattle.driver_calls.specs.declared.request.CallData.{CallData};
 ghost use Rattle.driver_cas.specs.Drivers.{acwu_of, area_of, made};
 ghost use Rattle.driver_cas.specs.Dropped.{drop_count};
 ghost use Rattle.driver_cas.specs.Requests.{pair_request_of, request_of};
+ghost use Rattle.slab.specs.Slab.{slab_len};
+ghost use Rattle.vandrexu_c.specs.Calls.{CallGivenUp};
 ghost use Rattle.vandrexu_c.specs.RemoteStates.{RemoteState};
 ghost use Rattle.vandrexu_c.specs.Remotes.{IsNewRemote, MayRefuseRemote, RemoteGives, RemotePolls, RemoteStarts};
 ghost use Rattle.vandrexu_c.specs.Remotes.{RemoteTakes};
 
+use crate::call_told::number_told;
 use crate::carrying::OutgoingEntry;
 use crate::copying::fits;
 use crate::host_reply::HostReply;
 use crate::lending::lend;
 use crate::numbers::TOO_SMALL;
-use crate::remote::{DrivenRemote, number_told};
+use crate::remote::DrivenRemote;
 use crate::remote_handle::RemoteHandle;
 use c_handles::numbers::{IN_USE, NO_MEMORY};
 use nvme_model::array::Range;
@@ -171,9 +174,9 @@ pub extern "C" fn vandrexu_remote_compare_and_write(
         number_told(owned.as_mut().host.start_compare_and_write(lba, expected, desired), call))
 }
 
-/// Polls the call with this number, and reaps at most one completion that was brought: 0, and what became of the call;
-/// or 44 where it failed, with its status; or 117 where no call has the number; or 101 where the handle owns nothing.
-/// `reply` is written but for 101.
+/// Polls the call with this number, and before it one that was given up, where there is one. Each of the two polls
+/// reaps at most one completion that was brought: 0, and what became of the call; or 44 where it failed, with its
+/// status; or 117 where no call has the number; or 101 where the handle owns nothing. `reply` is written but for 101.
 #[unsafe(no_mangle)]
 pub extern "C" fn vandrexu_remote_poll(
     alloc: Global,
@@ -189,6 +192,42 @@ pub extern "C" fn vandrexu_remote_poll(
     let (told, what) = lend!(alloc, remote, mut owned => owned.as_mut().poll(call));
     *reply = what;
     told
+}
+
+/// Gives up the call with this number, whose CIDs stay in use until its completions came: 0; or 117 where no call has
+/// the number; or 11 where memory is refused; or 101 where the handle owns nothing.
+#[unsafe(no_mangle)]
+pub extern "C" fn vandrexu_remote_give_up(
+    alloc: Global,
+    remote: &mut RemoteHandle,
+    call: u32,
+) -> u32
+    ensures no_handle { remote.old.held.remote ≡ None → (result ≡ 101) × (remote.new.held.remote ≡ None) }
+    ensures gives_up { (r : RemoteState) → remote.old.held.remote ≡ Some r →
+        Keeps remote.new.held.remote (λ s. CallGivenUp r s call result) }
+{
+    lend!(alloc, remote, mut owned => owned.as_mut().give_up(call))
+}
+
+/// How many calls the host waits for: 0, and `calls` is how many have a number, `given_up` how many were given up; or
+/// 101 where the handle owns nothing.
+#[unsafe(no_mangle)]
+pub extern "C" fn vandrexu_remote_waiting(
+    alloc: Global,
+    remote: &mut RemoteHandle,
+    calls: &mut usize,
+    given_up: &mut usize,
+) -> u32
+    ensures no_handle { remote.old.held.remote ≡ None →
+        (result ≡ 101) × (calls.new ≡ calls.old) × (given_up.new ≡ given_up.old) }
+    ensures same { remote.new.held.remote ≡ remote.old.held.remote }
+    ensures counts { (r : RemoteState) → remote.old.held.remote ≡ Some r →
+        (result ≡ 0) × (calls.new ≡ slab_len r.host.calls) × (given_up.new ≡ length r.host.given_up) }
+{
+    let waiting = lend!(alloc, remote, owned => owned.as_ref().host.waiting());
+    *calls = waiting.calls;
+    *given_up = waiting.given_up;
+    0
 }
 
 /// Copies what was read last: 0, and the beginning of `out` has it; or 103 where `out` is too short, and nothing is

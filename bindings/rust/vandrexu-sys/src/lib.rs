@@ -436,10 +436,22 @@ unsafe extern "C" {
     pub fn vandrexu_disk_medium(disk: *mut vandrexu_disk, lba: u64, out: *mut u8) -> u32;
     pub fn vandrexu_host_new(disk: *mut vandrexu_disk, number: u32, queue: u16, host: *mut vandrexu_host) -> u32;
     pub fn vandrexu_host_free(host: *mut vandrexu_host);
-    pub fn vandrexu_host_read(host: *mut vandrexu_host, lba: u64, blocks: u32) -> u32;
-    pub fn vandrexu_host_write_zeroes(host: *mut vandrexu_host, lba: u64, blocks: u32) -> u32;
-    pub fn vandrexu_host_write(host: *mut vandrexu_host, lba: u64, data: *const u8, length: usize) -> u32;
-    pub fn vandrexu_host_compare(host: *mut vandrexu_host, lba: u64, data: *const u8, length: usize) -> u32;
+    pub fn vandrexu_host_read(host: *mut vandrexu_host, lba: u64, blocks: u32, call: *mut u32) -> u32;
+    pub fn vandrexu_host_write_zeroes(host: *mut vandrexu_host, lba: u64, blocks: u32, call: *mut u32) -> u32;
+    pub fn vandrexu_host_write(
+        host: *mut vandrexu_host,
+        lba: u64,
+        data: *const u8,
+        length: usize,
+        call: *mut u32,
+    ) -> u32;
+    pub fn vandrexu_host_compare(
+        host: *mut vandrexu_host,
+        lba: u64,
+        data: *const u8,
+        length: usize,
+        call: *mut u32,
+    ) -> u32;
     pub fn vandrexu_host_compare_and_write(
         host: *mut vandrexu_host,
         lba: u64,
@@ -447,8 +459,11 @@ unsafe extern "C" {
         expected_length: usize,
         desired: *const u8,
         desired_length: usize,
+        call: *mut u32,
     ) -> u32;
-    pub fn vandrexu_host_poll(host: *mut vandrexu_host, reply: *mut vandrexu_reply) -> u32;
+    pub fn vandrexu_host_poll(host: *mut vandrexu_host, call: u32, reply: *mut vandrexu_reply) -> u32;
+    pub fn vandrexu_host_give_up(host: *mut vandrexu_host, call: u32) -> u32;
+    pub fn vandrexu_host_waiting(host: *mut vandrexu_host, calls: *mut usize, given_up: *mut usize) -> u32;
     pub fn vandrexu_host_data(host: *mut vandrexu_host, out: *mut u8, room: usize, needed: *mut usize) -> u32;
     pub fn vandrexu_slot_disk_new(
         config: *const vandrexu_config,
@@ -521,6 +536,8 @@ unsafe extern "C" {
         call: *mut u32,
     ) -> u32;
     pub fn vandrexu_remote_poll(remote: *mut vandrexu_remote, call: u32, reply: *mut vandrexu_reply) -> u32;
+    pub fn vandrexu_remote_give_up(remote: *mut vandrexu_remote, call: u32) -> u32;
+    pub fn vandrexu_remote_waiting(remote: *mut vandrexu_remote, calls: *mut usize, given_up: *mut usize) -> u32;
     pub fn vandrexu_remote_data(remote: *mut vandrexu_remote, out: *mut u8, room: usize, needed: *mut usize) -> u32;
     pub fn vandrexu_remote_outgoing(
         remote: *mut vandrexu_remote,

@@ -119,12 +119,14 @@ fn so_do_the_handles_of_remote_hosts() {
     let (mut remote, mut host) = (VANDREXU_REMOTE_NONE, VANDREXU_REMOTE_SLOT_HOST_NONE);
     let mut entry = vandrexu_outgoing { bytes: [9; 64], count: 9, more: 9, queue: 9, zeros: [9; 6] };
     let (mut reply, mut slot_reply) = (vandrexu_reply::default(), vandrexu_slot_reply::default());
-    let (mut call, mut count, mut needed, mut out, cqe) = (7, 7, 7, [7; 512], [0; 16]);
+    let (mut call, mut count, mut needed, mut given_up, mut out, cqe) = (7, 7, 7, 7, [7; 512], [0; 16]);
     unsafe {
         for _ in 0..2 {
             for answer in [
                 vandrexu_remote_read(&mut remote, 0, 1, &mut call),
                 vandrexu_remote_poll(&mut remote, 0, &mut reply),
+                vandrexu_remote_give_up(&mut remote, 0),
+                vandrexu_remote_waiting(&mut remote, &mut needed, &mut given_up),
                 vandrexu_remote_data(&mut remote, out.as_mut_ptr(), 512, &mut needed),
                 vandrexu_remote_outgoing(&mut remote, &mut entry, out.as_mut_ptr(), 512),
                 vandrexu_remote_incoming(&mut remote, cqe.as_ptr(), out.as_ptr(), 0),
@@ -153,7 +155,7 @@ fn so_do_the_handles_of_remote_hosts() {
             }
         }
     }
-    assert_eq!((call, count, needed, out, entry.bytes), (7, 7, 7, [7; 512], [9; 64]));
+    assert_eq!((call, count, needed, given_up, out, entry.bytes), (7, 7, 7, 7, [7; 512], [9; 64]));
     assert_eq!((reply, slot_reply), (vandrexu_reply::default(), vandrexu_slot_reply::default()));
 }
 

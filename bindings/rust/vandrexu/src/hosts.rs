@@ -1,8 +1,9 @@
 //! A disk that hosts share, and hosts with a driver each.
+use crate::calls::{begun, waiting};
 use crate::error::{Error, Result, told};
 use crate::iterators::{HistoryLines, Source, piece};
 use crate::room::resize;
-use crate::{BLOCK, Config};
+use crate::{BLOCK, CallNumber, Config, Waiting};
 use std::cell::UnsafeCell;
 use std::fmt;
 use vandrexu_sys as sys;
@@ -18,13 +19,13 @@ use vandrexu_sys as sys;
 /// let mut disk = Disk::new(&Config { pairs: 2, cqs: 2, ..Config::default() }, 2)?;
 /// let (mut one, mut two) = (disk.host(1, 1)?, disk.host(2, 2)?);
 /// let (free, mine) = ([0; 512], [0xA1; 512]);
-/// one.compare_and_write(3, &free, &mine)?;
-/// two.compare_and_write(3, &free, &[0xB2; 512])?;
+/// let of_one = one.compare_and_write(3, &free, &mine)?;
+/// let of_two = two.compare_and_write(3, &free, &[0xB2; 512])?;
 /// disk.serve(2)?;
 /// disk.serve(1)?;
 /// // (a pair has two completions, and each poll reaps one)
-/// assert_eq!((two.poll()?, two.poll()?), (Reply::Pending, Reply::Swapped));
-/// assert_eq!((one.poll()?, one.poll()?), (Reply::Pending, Reply::Differs));
+/// assert_eq!((two.poll(of_two)?, two.poll(of_two)?), (Reply::Pending, Reply::Swapped));
+/// assert_eq!((one.poll(of_one)?, one.poll(of_one)?), (Reply::Pending, Reply::Differs));
 /// # Ok::<(), vandrexu::Error>(())
 /// ```
 #[must_use = "a disk that is dropped serves nobody"]
@@ -256,27 +257,28 @@ pub(crate) fn last_read(mut ask: impl FnMut(*mut u8, usize, *mut usize) -> u32) 
     }
 }
 
-/// A host of a [`Disk`], with a driver, and one call at a time. It is freed where it is dropped.
+/// A host of a [`Disk`], with a driver, and up to 64 commands in flight, of which a pair is two. It is freed where it is
+/// dropped.
 ///
-/// A call is begun, and then polled until it is over. A host outlives its disk's handle, but is served no more.
+/// A call is begun, and then polled by its number until it is over. A host outlives its disk's handle, but is served no
+/// more.
 ///
 /// ```
 /// use vandrexu::{Config, Disk, Error, Reply};
 ///
 /// let mut disk = Disk::new(&Config::default(), 1)?;
 /// let mut host = disk.host(1, 1)?;
-/// host.write(3, &[0xA1; 1024])?;
-/// assert_eq!(host.read(3, 1), Err(Error::InCall));
-/// assert_eq!(host.poll()?, Reply::Pending);
+/// let write = host.write(3, &[0xA1; 1024])?;
+/// let zeroes = host.write_zeroes(3, 1)?;
+/// assert_eq!(host.poll(write)?, Reply::Pending);
 /// disk.serve(1)?;
-/// assert_eq!(host.poll()?, Reply::Written);
-/// assert_eq!(host.poll(), Err(Error::NoCall));
-/// host.write_zeroes(3, 1)?;
 /// disk.serve(1)?;
-/// assert_eq!(host.poll()?, Reply::Written);
-/// host.read(3, 2)?;
+/// // (each poll reaps a completion, of whichever call)
+/// assert_eq!((host.poll(zeroes)?, host.poll(zeroes)?), (Reply::Pending, Reply::Written));
+/// assert_eq!((host.poll(write)?, host.poll(write)), (Reply::Written, Err(Error::NoCall)));
+/// let read = host.read(3, 2)?;
 /// disk.serve(1)?;
-/// assert_eq!(host.poll()?, Reply::Read([[0; 512], [0xA1; 512]].concat()));
+/// assert_eq!(host.poll(read)?, Reply::Read([[0; 512], [0xA1; 512]].concat()));
 /// # Ok::<(), Error>(())
 /// ```
 #[must_use = "a host that is dropped takes its place on the disk with it"]
@@ -291,38 +293,38 @@ impl Host {
     /// Begins to read so many blocks.
     ///
     /// # Errors
-    /// [`Error::InCall`]; [`Error::CallLength`] of no block, [`Error::CallTooLong`], [`Error::CallNoRoom`],
-    /// [`Error::Busy`], [`Error::NoMemory`]: nothing was published.
-    pub fn read(&mut self, lba: u64, blocks: u32) -> Result<()> {
+    /// [`Error::CallLength`] of no block, [`Error::CallTooLong`], [`Error::CallNoRoom`] where too few of the 64 commands
+    /// are free, or the submission queue is full, [`Error::Busy`], [`Error::NoMemory`]: nothing was published.
+    pub fn read(&mut self, lba: u64, blocks: u32) -> Result<CallNumber> {
         // SAFETY: nobody else has the handle, which isn't Sync.
-        told(unsafe { sys::vandrexu_host_read(self.handle.get(), lba, blocks) })
+        begun(|call| unsafe { sys::vandrexu_host_read(self.handle.get(), lba, blocks, call) })
     }
 
     /// Begins to write zeros to so many blocks.
     ///
     /// # Errors
     /// As [`read`](Host::read); [`Error::CallSlotArea`] where a slot of the disk is among the blocks.
-    pub fn write_zeroes(&mut self, lba: u64, blocks: u32) -> Result<()> {
+    pub fn write_zeroes(&mut self, lba: u64, blocks: u32) -> Result<CallNumber> {
         // SAFETY: as in read.
-        told(unsafe { sys::vandrexu_host_write_zeroes(self.handle.get(), lba, blocks) })
+        begun(|call| unsafe { sys::vandrexu_host_write_zeroes(self.handle.get(), lba, blocks, call) })
     }
 
     /// Begins to write this data, 512 bytes a block.
     ///
     /// # Errors
     /// As [`write_zeroes`](Host::write_zeroes); [`Error::CallLength`] also of data that isn't whole blocks.
-    pub fn write(&mut self, lba: u64, data: &[u8]) -> Result<()> {
+    pub fn write(&mut self, lba: u64, data: &[u8]) -> Result<CallNumber> {
         // SAFETY: as in read; a slice has an address that isn't null.
-        told(unsafe { sys::vandrexu_host_write(self.handle.get(), lba, data.as_ptr(), data.len()) })
+        begun(|call| unsafe { sys::vandrexu_host_write(self.handle.get(), lba, data.as_ptr(), data.len(), call) })
     }
 
     /// Begins to compare this data, 512 bytes a block, with what is there.
     ///
     /// # Errors
     /// As [`write`](Host::write), but for [`Error::CallSlotArea`].
-    pub fn compare(&mut self, lba: u64, data: &[u8]) -> Result<()> {
+    pub fn compare(&mut self, lba: u64, data: &[u8]) -> Result<CallNumber> {
         // SAFETY: as in write.
-        told(unsafe { sys::vandrexu_host_compare(self.handle.get(), lba, data.as_ptr(), data.len()) })
+        begun(|call| unsafe { sys::vandrexu_host_compare(self.handle.get(), lba, data.as_ptr(), data.len(), call) })
     }
 
     /// Begins to write the desired data where the blocks hold the expected data, as one fused pair.
@@ -330,10 +332,10 @@ impl Host {
     /// # Errors
     /// As [`write`](Host::write); [`Error::CallLength`] also of two data of unlike lengths, and [`Error::CallTooLong`] of
     /// more than `acwu` and one blocks.
-    pub fn compare_and_write(&mut self, lba: u64, expected: &[u8], desired: &[u8]) -> Result<()> {
+    pub fn compare_and_write(&mut self, lba: u64, expected: &[u8], desired: &[u8]) -> Result<CallNumber> {
         let (old, new) = (expected, desired);
         // SAFETY: as in write; both are only read.
-        told(unsafe {
+        begun(|call| unsafe {
             sys::vandrexu_host_compare_and_write(
                 self.handle.get(),
                 lba,
@@ -341,18 +343,21 @@ impl Host {
                 old.len(),
                 new.as_ptr(),
                 new.len(),
+                call,
             )
         })
     }
 
-    /// Reaps at most one completion, and says what became of the call, which is over but where it is pending.
+    /// Reaps at most one completion, of whichever call, and says what became of this call, which is over but where it is
+    /// pending. Calls are polled in any order. Where calls were given up, one of them has its turn first, and reaps one
+    /// more.
     ///
     /// # Errors
-    /// [`Error::NoCall`]; [`Error::Busy`] and [`Error::NoMemory`], where the call goes on.
-    pub fn poll(&mut self) -> Result<Reply> {
+    /// [`Error::NoCall`] where no call has the number; [`Error::Busy`] and [`Error::NoMemory`], where the call goes on.
+    pub fn poll(&mut self, call: CallNumber) -> Result<Reply> {
         let mut reply = sys::vandrexu_reply::default();
         // SAFETY: as in read.
-        match told(unsafe { sys::vandrexu_host_poll(self.handle.get(), &mut reply) }) {
+        match told(unsafe { sys::vandrexu_host_poll(self.handle.get(), call.0, &mut reply) }) {
             Ok(()) | Err(Error::CallFailed) => {}
             Err(other) => return Err(other),
         }
@@ -362,6 +367,38 @@ impl Host {
                 unsafe { sys::vandrexu_host_data(self.handle.get(), out, room, needed) }
             })
         })
+    }
+    /// Gives up a call, whose number is free then: what it asked for is done or not, and nobody is told. Its CIDs stay in
+    /// use until its completions came, and polls have reaped them.
+    ///
+    /// # Errors
+    /// [`Error::NoCall`] where no call has the number; [`Error::NoMemory`], and the call goes on.
+    pub fn give_up(&mut self, call: CallNumber) -> Result<()> {
+        // SAFETY: as in read.
+        told(unsafe { sys::vandrexu_host_give_up(self.handle.get(), call.0) })
+    }
+
+    /// How many calls the host waits for.
+    ///
+    /// ```
+    /// use vandrexu::{Config, Disk, Error, Reply, Waiting};
+    ///
+    /// let mut disk = Disk::new(&Config::default(), 1)?;
+    /// let mut host = disk.host(1, 1)?;
+    /// let (one, two) = (host.read(0, 1)?, host.read(1, 1)?);
+    /// host.give_up(one)?;
+    /// assert_eq!(host.waiting(), Waiting { calls: 1, given_up: 1 });
+    /// assert_eq!(host.poll(one), Err(Error::NoCall));
+    /// disk.serve(1)?;
+    /// // (the call that was given up has its turn)
+    /// assert_eq!(host.poll(two)?, Reply::Pending);
+    /// assert_eq!(host.waiting(), Waiting { calls: 1, given_up: 0 });
+    /// # Ok::<(), Error>(())
+    /// ```
+    #[must_use]
+    pub fn waiting(&self) -> Waiting {
+        // SAFETY: as in read.
+        waiting(|calls, given_up| unsafe { sys::vandrexu_host_waiting(self.handle.get(), calls, given_up) })
     }
 }
 

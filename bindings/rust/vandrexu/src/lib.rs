@@ -69,6 +69,7 @@
 //! is_shared::<vandrexu::RemoteSlotHost>();
 //! ```
 mod answers;
+mod calls;
 mod checker;
 mod config;
 mod controller;
@@ -85,6 +86,7 @@ mod texts;
 mod tracer;
 
 pub use answers::{Blocked, Completion, Found, Granted, Made, Mode, Op, Reaped, Step, Task, Work};
+pub use calls::{CallNumber, Waiting};
 pub use checker::Checker;
 pub use config::Config;
 pub use controller::Controller;
@@ -92,7 +94,7 @@ pub use entry::Entry;
 pub use error::{Error, Result};
 pub use hosts::{Disk, Host, Reply};
 pub use iterators::{Completions, HistoryLines, Steps};
-pub use remote::{CallNumber, Outgoing, RemoteHost};
+pub use remote::{Outgoing, RemoteHost};
 pub use remote_slots::RemoteSlotHost;
 pub use slot_checker::{SlotChecker, SlotFault};
 pub use slots::{Name, SlotHost, SlotReply};

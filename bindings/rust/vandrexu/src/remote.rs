@@ -1,8 +1,9 @@
 //! Hosts of a controller that is somewhere else, whose caller carries what they publish and what comes back.
+use crate::calls::{begun, waiting};
 use crate::error::{Error, Result, told};
 use crate::hosts::last_read;
 use crate::room::resize;
-use crate::{Completion, Reply};
+use crate::{CallNumber, Completion, Reply, Waiting};
 use std::cell::UnsafeCell;
 use std::fmt;
 use vandrexu_sys as sys;
@@ -20,10 +21,6 @@ pub struct Outgoing {
     /// Whether it is the first of a fused pair, whose second is the next entry.
     pub more: bool,
 }
-
-/// The number of a call of a [`RemoteHost`]. Once the call is over the next one may have it.
-#[derive(Clone, Copy, Debug, PartialEq, Eq, Hash)]
-pub struct CallNumber(u32);
 
 /// A host of a controller that is somewhere else, with a driver, and up to 64 commands in flight, of which a pair is two.
 /// It is freed where it is dropped.
@@ -175,7 +172,8 @@ impl RemoteHost {
     }
 
     /// Takes at most one of the completions that were brought, of whichever call, and says what became of this call,
-    /// which is over but where it is pending. Calls are polled in any order.
+    /// which is over but where it is pending. Calls are polled in any order. Where calls were given up, one of them has its
+    /// turn first, and takes one more.
     ///
     /// # Errors
     /// [`Error::NoCall`] where no call has the number; [`Error::NoMemory`] where there is none for what was read, and the
@@ -193,6 +191,35 @@ impl RemoteHost {
                 unsafe { sys::vandrexu_remote_data(self.at(), out, room, needed) }
             })
         })
+    }
+
+    /// Gives up a call, whose number is free then: what it asked for is done or not, and nobody is told. Its CIDs stay in
+    /// use until its completions were brought, and polls have taken them.
+    ///
+    /// # Errors
+    /// [`Error::NoCall`] where no call has the number; [`Error::NoMemory`], and the call goes on.
+    pub fn give_up(&mut self, call: CallNumber) -> Result<()> {
+        // SAFETY: as `at` says.
+        told(unsafe { sys::vandrexu_remote_give_up(self.at(), call.0) })
+    }
+
+    /// How many calls the host waits for.
+    ///
+    /// ```
+    /// use vandrexu::{Error, RemoteHost, Waiting};
+    ///
+    /// let mut host = RemoteHost::new(1, 1, 0)?;
+    /// let (one, two) = (host.read(0, 1)?, host.read(1, 1)?);
+    /// host.give_up(one)?;
+    /// assert_eq!(host.waiting(), Waiting { calls: 1, given_up: 1 });
+    /// assert_eq!(host.poll(one), Err(Error::NoCall));
+    /// # let _ = two;
+    /// # Ok::<(), Error>(())
+    /// ```
+    #[must_use]
+    pub fn waiting(&self) -> Waiting {
+        // SAFETY: as `at` says.
+        waiting(|calls, given_up| unsafe { sys::vandrexu_remote_waiting(self.at(), calls, given_up) })
     }
 
     /// The entry that was published first of those that weren't told yet; `None` where there is none.
@@ -239,13 +266,6 @@ impl fmt::Debug for RemoteHost {
     fn fmt(&self, f: &mut fmt::Formatter<'_>) -> fmt::Result {
         f.debug_struct("RemoteHost").field("dropped", &self.dropped()).finish_non_exhaustive()
     }
-}
-
-/// The number of a call that was begun.
-fn begun(ask: impl FnOnce(&mut u32) -> u32) -> Result<CallNumber> {
-    let mut call = 0;
-    told(ask(&mut call))?;
-    Ok(CallNumber(call))
 }
 
 /// The next entry, with its data: asks for it with the room that is wanted.

@@ -18,9 +18,9 @@ use vandrexu_sys as sys;
 /// let config = Config::default();
 /// let mut disk = Disk::new(&config, 1)?;
 /// let mut host = disk.host(1, 1)?;
-/// host.read(3, 1)?;
+/// let read = host.read(3, 1)?;
 /// disk.serve(1)?;
-/// let _ = host.poll()?;
+/// let _ = host.poll(read)?;
 /// let (mut tracer, mut trace) = (Tracer::new(&config)?, vec![config.to_string()]);
 /// for line in disk.history(1) {
 ///     trace.extend(tracer.take_line(line?)?);

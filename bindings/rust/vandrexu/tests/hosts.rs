@@ -1,15 +1,15 @@
 //! The answers of disks and hosts, and the lines of histories, that no example shows.
 use std::thread;
-use vandrexu::{Config, Controller, Disk, Entry, Error, Host, Lines, Reply, run_text};
+use vandrexu::{CallNumber, Config, Controller, Disk, Entry, Error, Host, Lines, Reply, Waiting, run_text};
 
 const TWO: Config =
     Config { blocks: 8, awun: 1, acwu: 1, nabsn: 0, nabo: 0, pairs: 2, sq_size: 4, cq_size: 4, jobs: 8, cqs: 2 };
 
 /// Serves a queue, and polls until the call is over.
-fn over(disk: &mut Disk, queue: u16, host: &mut Host) -> Reply {
+fn over(disk: &mut Disk, queue: u16, host: &mut Host, call: CallNumber) -> Reply {
     disk.serve(queue).expect("it is served");
     loop {
-        match host.poll().expect("it has a call") {
+        match host.poll(call).expect("it has the call") {
             Reply::Pending => {}
             reply => return reply,
         }
@@ -28,27 +28,19 @@ fn what_is_refused() -> Result<(), Error> {
         (disk.serve(1), disk.serve(3), disk.fetch(1)),
         (Err(Error::NoEntry), Err(Error::NoQueue), Err(Error::NoEntry))
     );
-    assert_eq!((disk.task(), host.poll()), (Ok(false), Err(Error::NoCall)));
+    assert_eq!(disk.task(), Ok(false));
     assert_eq!((disk.forget(0), disk.forget(u64::MAX)), (Ok(()), Ok(())));
     assert_eq!((host.read(0, 0), host.read(0, 257)), (Err(Error::CallLength), Err(Error::CallTooLong)));
     assert_eq!((host.write_zeroes(0, 0), host.write_zeroes(0, 257)), (Err(Error::CallLength), Err(Error::CallTooLong)));
     assert_eq!((host.write(0, &[]), host.compare(0, &[0; 511])), (Err(Error::CallLength), Err(Error::CallLength)));
     assert_eq!(host.compare_and_write(0, &[0; 512], &[0; 1024]), Err(Error::CallLength));
     assert_eq!(host.compare_and_write(0, &[0; 1536], &[0; 1536]), Err(Error::CallTooLong));
-    host.write(0, &[0; 512])?;
-    for call in [
-        host.read(0, 1),
-        host.write(0, &[0; 512]),
-        host.write_zeroes(0, 1),
-        host.compare(0, &[0; 512]),
-        host.compare_and_write(0, &[0; 512], &[0; 512]),
-    ] {
-        assert_eq!(call, Err(Error::InCall));
-    }
+    let call = host.write(0, &[0; 512])?;
     disk.fetch(1)?;
     assert_eq!(disk.fetch(2), Err(Error::Unfinished));
     assert_eq!(disk.serve(2), Ok(()));
-    assert_eq!(host.poll(), Ok(Reply::Written));
+    assert_eq!((host.poll(call), host.poll(call)), (Ok(Reply::Written), Err(Error::NoCall)));
+    assert_eq!(host.give_up(call), Err(Error::NoCall));
     assert_eq!((format!("{disk:?}"), format!("{host:?}")), ("Disk { .. }".to_owned(), "Host { .. }".to_owned()));
     // a queue of two entries takes one at a time
     let mut disk = Disk::new(&Config { sq_size: 2, ..TWO }, 1)?;
@@ -67,8 +59,8 @@ fn a_number_and_a_completion_queue_are_one_hosts() -> Result<(), Error> {
         assert_eq!(disk.host(number, queue).err(), Some(cause));
     }
     let mut one = disk.host(u32::MAX, 3)?;
-    one.write(3, &[0xA1; 512])?;
-    assert_eq!(over(&mut disk, 3, &mut one), Reply::Written);
+    let call = one.write(3, &[0xA1; 512])?;
+    assert_eq!(over(&mut disk, 3, &mut one, call), Reply::Written);
     assert_eq!(disk.host(u32::MAX, 5).err(), Some(Error::NoQueue));
     let used = |disk: &mut Disk| {
         for queue in 1..=4 {
@@ -83,8 +75,8 @@ fn a_number_and_a_completion_queue_are_one_hosts() -> Result<(), Error> {
     used(&mut disk);
     // what was refused has used no pass, and no number
     let mut two = disk.host(1, 4)?;
-    two.compare(3, &[0xA1; 512])?;
-    assert_eq!(over(&mut disk, 4, &mut two), Reply::Equal);
+    let call = two.compare(3, &[0xA1; 512])?;
+    assert_eq!(over(&mut disk, 4, &mut two, call), Reply::Equal);
     assert_eq!((disk.host(2, 2).err(), disk.host(1, 1).err()), (Some(Error::UsedQueue), Some(Error::UsedNumber)));
     Ok(())
 }
@@ -93,25 +85,71 @@ fn a_number_and_a_completion_queue_are_one_hosts() -> Result<(), Error> {
 fn each_reply() -> Result<(), Error> {
     let mut disk = Disk::new(&TWO, 2)?;
     let (mut one, mut two) = (disk.host(1, 1)?, disk.host(2, 2)?);
-    one.compare_and_write(3, &[0; 1024], &[0xA1; 1024])?;
-    assert_eq!(one.poll(), Ok(Reply::Pending));
-    assert_eq!(over(&mut disk, 1, &mut one), Reply::Swapped);
-    two.compare_and_write(3, &[0; 512], &[0xB2; 512])?;
-    assert_eq!(over(&mut disk, 2, &mut two), Reply::Differs);
-    two.compare(4, &[0xA1; 512])?;
-    assert_eq!(over(&mut disk, 2, &mut two), Reply::Equal);
-    two.compare(4, &[0xB2; 512])?;
-    assert_eq!(over(&mut disk, 2, &mut two), Reply::Differs);
-    one.write_zeroes(4, 1)?;
-    assert_eq!(over(&mut disk, 1, &mut one), Reply::Written);
-    two.read(3, 2)?;
-    assert_eq!(over(&mut disk, 2, &mut two), Reply::Read([[0xA1; 512], [0; 512]].concat()));
-    two.read(8, 1)?;
-    assert_eq!(over(&mut disk, 2, &mut two), Reply::Failed { sct: 0, sc: 0x80 });
-    assert_eq!(two.poll(), Err(Error::NoCall));
+    let call = one.compare_and_write(3, &[0; 1024], &[0xA1; 1024])?;
+    assert_eq!(one.poll(call), Ok(Reply::Pending));
+    assert_eq!(over(&mut disk, 1, &mut one, call), Reply::Swapped);
+    let call = two.compare_and_write(3, &[0; 512], &[0xB2; 512])?;
+    assert_eq!(over(&mut disk, 2, &mut two, call), Reply::Differs);
+    let call = two.compare(4, &[0xA1; 512])?;
+    assert_eq!(over(&mut disk, 2, &mut two, call), Reply::Equal);
+    let call = two.compare(4, &[0xB2; 512])?;
+    assert_eq!(over(&mut disk, 2, &mut two, call), Reply::Differs);
+    let call = one.write_zeroes(4, 1)?;
+    assert_eq!(over(&mut disk, 1, &mut one, call), Reply::Written);
+    let call = two.read(3, 2)?;
+    assert_eq!(over(&mut disk, 2, &mut two, call), Reply::Read([[0xA1; 512], [0; 512]].concat()));
+    let call = two.read(8, 1)?;
+    assert_eq!(over(&mut disk, 2, &mut two, call), Reply::Failed { sct: 0, sc: 0x80 });
+    assert_eq!(two.poll(call), Err(Error::NoCall));
     drop(disk);
-    one.write(0, &[0; 512])?;
-    assert_eq!(one.poll(), Ok(Reply::Pending));
+    let call = one.write(0, &[0; 512])?;
+    assert_eq!(one.poll(call), Ok(Reply::Pending));
+    Ok(())
+}
+
+#[test]
+fn many_calls_of_one_host() -> Result<(), Error> {
+    let mut disk = Disk::new(&Config { sq_size: 80, cq_size: 80, jobs: 80, ..TWO }, 1)?;
+    let mut host = disk.host(7, 2)?;
+    let swapped = host.compare_and_write(3, &[0; 512], &[0xA1; 512])?;
+    let reads = (0..62).map(|_| host.read(3, 1)).collect::<Result<Vec<_>, _>>()?;
+    assert_eq!(host.waiting(), Waiting { calls: 63, given_up: 0 });
+    // (64 CIDs, of which a pair has two)
+    assert_eq!(host.read(3, 1), Err(Error::CallNoRoom));
+    for _ in 0..63 {
+        disk.serve(2)?;
+    }
+    // in another order than they were begun
+    for &read in reads.iter().rev() {
+        while host.poll(read)? == Reply::Pending {}
+        assert_eq!(host.poll(read), Err(Error::NoCall));
+    }
+    assert_eq!((host.poll(swapped), host.waiting()), (Ok(Reply::Swapped), Waiting { calls: 0, given_up: 0 }));
+    Ok(())
+}
+
+#[test]
+fn calls_that_are_given_up_keep_their_cids() -> Result<(), Error> {
+    let mut disk = Disk::new(&Config { sq_size: 80, cq_size: 80, jobs: 80, ..TWO }, 1)?;
+    let mut host = disk.host(7, 2)?;
+    let swapped = host.compare_and_write(3, &[0; 512], &[0xA1; 512])?;
+    let reads = (0..62).map(|_| host.read(3, 1)).collect::<Result<Vec<_>, _>>()?;
+    host.give_up(swapped)?;
+    assert_eq!((host.give_up(swapped), host.poll(swapped)), (Err(Error::NoCall), Err(Error::NoCall)));
+    assert_eq!((host.waiting(), host.read(3, 1)), (Waiting { calls: 62, given_up: 1 }, Err(Error::CallNoRoom)));
+    disk.serve(2)?;
+    assert_eq!((host.waiting(), host.read(3, 1)), (Waiting { calls: 62, given_up: 1 }, Err(Error::CallNoRoom)));
+    // each poll reaps a completion of the pair, at its turn; behind that it is done with
+    assert_eq!((host.poll(reads[0])?, host.poll(reads[0])?), (Reply::Pending, Reply::Pending));
+    assert_eq!(host.waiting(), Waiting { calls: 62, given_up: 0 });
+    let back = host.compare_and_write(3, &[0xA1; 512], &[0; 512])?;
+    assert_eq!(host.read(3, 1), Err(Error::CallNoRoom));
+    for _ in 0..63 {
+        disk.serve(2)?;
+    }
+    while host.poll(back)? == Reply::Pending {}
+    assert_eq!(host.poll(reads[61])?, Reply::Read(vec![0xA1; 512]));
+    assert_eq!(host.waiting(), Waiting { calls: 61, given_up: 0 });
     Ok(())
 }
 
@@ -126,9 +164,9 @@ fn when_free<T>(mut ask: impl FnMut() -> Result<T, Error>) -> T {
 }
 
 /// Polls until the call is over.
-fn reply_of(host: &mut Host) -> Reply {
+fn reply_of(host: &mut Host, call: CallNumber) -> Reply {
     loop {
-        match when_free(|| host.poll()) {
+        match when_free(|| host.poll(call)) {
             Reply::Pending => thread::yield_now(),
             reply => return reply,
         }
@@ -143,12 +181,12 @@ fn add(host: &mut Host, times: u32) {
         let mut new = old;
         let count = u16::from_le_bytes([old[0], old[1]]) + 1;
         new[..2].copy_from_slice(&count.to_le_bytes());
-        when_free(|| host.compare_and_write(0, &old, &new));
-        match reply_of(host) {
+        let call = when_free(|| host.compare_and_write(0, &old, &new));
+        match reply_of(host, call) {
             Reply::Swapped => (old, added) = (new, added + 1),
             Reply::Differs => {
-                when_free(|| host.read(0, 1));
-                let Reply::Read(data) = reply_of(host) else { panic!("a Read reads") };
+                let call = when_free(|| host.read(0, 1));
+                let Reply::Read(data) = reply_of(host, call) else { panic!("a Read reads") };
                 old.copy_from_slice(&data);
             }
             other => panic!("{other:?}"),
@@ -177,8 +215,8 @@ fn hosts_on_threads_of_their_own_count_together() {
     }
     let [one, _two] = threads;
     let mut host = one.join().expect("it ends");
-    host.read(0, 1).expect("it has no call");
-    let Reply::Read(data) = over(&mut disk, 1, &mut host) else { panic!("a Read reads") };
+    let call = host.read(0, 1).expect("it has no call");
+    let Reply::Read(data) = over(&mut disk, 1, &mut host, call) else { panic!("a Read reads") };
     assert_eq!((u16::from_le_bytes([data[0], data[1]]), &data[2..]), (200, &[0; 510][..]));
 }
 

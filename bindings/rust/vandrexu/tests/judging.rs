@@ -1,7 +1,7 @@
 //! Disks with hosts that are judged: by their histories, their slots and their traces.
 use vandrexu::{
-    Checker, Config, Controller, Disk, Entry, Error, Host, Reply, SlotChecker, SlotFault, SlotReply, Tracer,
-    certify_text,
+    CallNumber, Checker, Config, Controller, Disk, Entry, Error, Host, Reply, SlotChecker, SlotFault, SlotReply,
+    Tracer, certify_text,
 };
 
 const THREE: Config =
@@ -19,10 +19,10 @@ fn block_of(host: u8, serial: u8) -> [u8; 512] {
 }
 
 /// Serves a queue, and polls until the call is over.
-fn over(disk: &mut Disk, queue: u16, host: &mut Host) -> Reply {
+fn over(disk: &mut Disk, queue: u16, host: &mut Host, call: CallNumber) -> Reply {
     disk.serve(queue).expect("it is served");
     loop {
-        match host.poll().expect("it has a call") {
+        match host.poll(call).expect("it has the call") {
             Reply::Pending => {}
             reply => return reply,
         }
@@ -67,8 +67,8 @@ fn histories_and_blocks_of_a_disk() {
     let mut host = disk.host(1, 1).expect("memory");
     assert_eq!(disk.history(0).collect::<Result<Vec<_>, _>>(), Ok(vec![THREE.to_string()]));
     let data: Vec<u8> = (0..8 * 512).map(|at| (at % 256) as u8).collect();
-    host.write(0, &data).expect("it is begun");
-    assert_eq!(over(&mut disk, 1, &mut host), Reply::Written);
+    let call = host.write(0, &data).expect("it is begun");
+    assert_eq!(over(&mut disk, 1, &mut host, call), Reply::Written);
     let lines = disk.history(0).collect::<Result<Vec<_>, _>>().expect("lines");
     assert_eq!(disk.history_count(), Ok(lines.len() as u64 - 1));
     // (the first is longer than the first room)
@@ -93,11 +93,11 @@ fn hosts_of_a_disk_with_slots_keep_their_discipline() {
 fn rules_that_hosts_break() {
     let mut disk = Disk::new(&THREE, 2).expect("memory");
     let (mut one, mut two) = (disk.host(1, 1).expect("memory"), disk.host(2, 2).expect("memory"));
-    one.compare_and_write(3, &[0; 512], &block_of(1, 1)).expect("it is begun");
-    assert_eq!(over(&mut disk, 1, &mut one), Reply::Swapped);
+    let call = one.compare_and_write(3, &[0; 512], &block_of(1, 1)).expect("it is begun");
+    assert_eq!(over(&mut disk, 1, &mut one, call), Reply::Swapped);
     let before = disk.history_count().expect("a count");
-    two.compare_and_write(3, &block_of(1, 1), &[0; 512]).expect("it is begun");
-    assert_eq!(over(&mut disk, 2, &mut two), Reply::Swapped);
+    let call = two.compare_and_write(3, &block_of(1, 1), &[0; 512]).expect("it is begun");
+    assert_eq!(over(&mut disk, 2, &mut two, call), Reply::Swapped);
     let words = "a release on another completion queue than its claim".to_owned();
     assert_eq!(kept(&disk, FIRST, COUNT), (before, Some(SlotFault { place: before + 1, block: 3, words })));
     assert_eq!(kept(&disk, 4, 1).1, None);
@@ -120,10 +120,10 @@ fn traces() {
     let mut host = disk.host(1, 1).expect("memory");
     // (what is read is longer than the first room)
     let data: Vec<u8> = (0..1024).map(|at| (at % 256) as u8).collect();
-    host.write(0, &data).expect("it is begun");
-    assert_eq!(over(&mut disk, 1, &mut host), Reply::Written);
-    host.read(0, 2).expect("it is begun");
-    assert_eq!(over(&mut disk, 1, &mut host), Reply::Read(data));
+    let call = host.write(0, &data).expect("it is begun");
+    assert_eq!(over(&mut disk, 1, &mut host, call), Reply::Written);
+    let call = host.read(0, 2).expect("it is begun");
+    assert_eq!(over(&mut disk, 1, &mut host, call), Reply::Read(data));
     let (mut tracer, mut trace) = (Tracer::new(&THREE).expect("memory"), format!("{THREE}\n"));
     let mut history = trace.clone();
     for line in disk.history(1) {

@@ -3,7 +3,7 @@ use std::sync::mpsc::channel;
 use std::thread;
 use vandrexu::{
     CallNumber, Completion, Config, Controller, Entry, Error, Name, Outgoing, Reaped, RemoteHost, RemoteSlotHost,
-    Reply, SlotReply,
+    Reply, SlotReply, Waiting,
 };
 
 const THREE: Config =
@@ -193,6 +193,29 @@ fn up_to_64_commands_are_in_flight() -> Result<(), Error> {
     // its number and its CID are used again
     assert_eq!(host.read(9, 1)?, last);
     assert_eq!(host.outgoing()?.map(|it| it.entry[2]), Some(63));
+    Ok(())
+}
+
+#[test]
+fn calls_that_are_given_up_keep_their_cids() -> Result<(), Error> {
+    let mut host = RemoteHost::new(1, 1, 0)?;
+    let calls = (0..64).map(|lba| host.read(lba, 1)).collect::<Result<Vec<_>, _>>()?;
+    for call in [calls[3], calls[9]] {
+        host.give_up(call)?;
+        assert_eq!((host.give_up(call), host.read(0, 1)), (Err(Error::NoCall), Err(Error::CallNoRoom)));
+    }
+    assert_eq!(host.waiting(), Waiting { calls: 62, given_up: 2 });
+    host.incoming(Completion(success(9)), &[0xB2; 512])?;
+    host.incoming(Completion(success(63)), &[0xA1; 512])?;
+    // that of CID 3 has its turn, and takes the completion of CID 9; the call that is polled takes its own
+    assert_eq!(host.poll(calls[63]), Ok(Reply::Read(vec![0xA1; 512])));
+    assert_eq!(host.waiting(), Waiting { calls: 61, given_up: 2 });
+    // then that of CID 9, also where no call has the number that is polled
+    assert_eq!(host.poll(calls[63]), Err(Error::NoCall));
+    assert_eq!(host.waiting(), Waiting { calls: 61, given_up: 1 });
+    let _ = (host.read(0, 1)?, host.read(0, 1)?);
+    assert_eq!((host.read(0, 1), host.dropped()), (Err(Error::CallNoRoom), 0));
+    assert_eq!(host.waiting(), Waiting { calls: 63, given_up: 1 });
     Ok(())
 }
 

@@ -1,7 +1,7 @@
 //! The answers of slot hosts, each call with each that can be had.
 use std::sync::atomic::{AtomicU32, Ordering};
 use std::thread;
-use vandrexu::{Config, Disk, Error, Host, Name, Reply, SlotHost, SlotReply};
+use vandrexu::{CallNumber, Config, Disk, Error, Host, Name, Reply, SlotHost, SlotReply, Waiting};
 
 const TWO: Config =
     Config { blocks: 8, awun: 1, acwu: 1, nabsn: 0, nabo: 0, pairs: 2, sq_size: 4, cq_size: 4, jobs: 8, cqs: 2 };
@@ -33,10 +33,10 @@ fn over(disk: &mut Disk, queue: u16, host: &mut SlotHost) -> SlotReply {
 }
 
 /// The same of a host of the other kind.
-fn plain_over(disk: &mut Disk, queue: u16, host: &mut Host) -> Reply {
+fn plain_over(disk: &mut Disk, queue: u16, host: &mut Host, call: CallNumber) -> Reply {
     disk.serve(queue).expect("it is served");
     loop {
-        match host.poll().expect("it has a call") {
+        match host.poll(call).expect("it has the call") {
             Reply::Pending => {}
             reply => return reply,
         }
@@ -145,10 +145,10 @@ fn a_second_host_of_a_number_or_a_completion_queue_is_refused() -> Result<(), Er
     }
     // what was refused has used no pass, and no number
     let mut two = disk.host(2, 4)?;
-    two.write(0, &[0xA1; 512])?;
+    let call = two.write(0, &[0xA1; 512])?;
     one.claim(0)?;
     assert_eq!(over(&mut disk, 1, &mut one), SlotReply::Held(0));
-    assert_eq!(plain_over(&mut disk, 4, &mut two), Reply::Written);
+    assert_eq!(plain_over(&mut disk, 4, &mut two, call), Reply::Written);
     let used = |disk: &mut Disk| {
         for queue in 1..=4 {
             refuses(disk, 1, queue, Error::UsedNumber);
@@ -293,7 +293,7 @@ fn beside_slots() -> (Disk, SlotHost, Host) {
 }
 
 /// What each call is answered that writes so many blocks, one or two.
-fn writes(host: &mut Host, lba: u64, blocks: u8) -> [Result<(), Error>; 3] {
+fn writes(host: &mut Host, lba: u64, blocks: u8) -> [Result<CallNumber, Error>; 3] {
     let data = vec![0xEE; 512 * usize::from(blocks)];
     [host.write(lba, &data), host.write_zeroes(lba, blocks.into()), host.compare_and_write(lba, &data, &data)]
 }
@@ -301,7 +301,7 @@ fn writes(host: &mut Host, lba: u64, blocks: u8) -> [Result<(), Error>; 3] {
 #[test]
 fn a_plain_host_writes_beside_slots_and_none_of_them() -> Result<(), Error> {
     let (mut disk, mut one, mut two) = beside_slots();
-    let refused: [Result<(), Error>; 3] = [Err(Error::CallSlotArea); 3];
+    let refused: [Result<CallNumber, Error>; 3] = [Err(Error::CallSlotArea); 3];
     for slot in 0..COUNT {
         assert_eq!(writes(&mut two, FIRST + u64::from(slot), 1), refused, "slot {slot}");
     }
@@ -313,19 +313,19 @@ fn a_plain_host_writes_beside_slots_and_none_of_them() -> Result<(), Error> {
     }
     assert_eq!(two.write_zeroes(0, 256), Err(Error::CallSlotArea));
     // nothing was published
-    assert_eq!((two.poll(), disk.serve(2)), (Err(Error::NoCall), Err(Error::NoEntry)));
+    assert_eq!((two.waiting(), disk.serve(2)), (Waiting { calls: 0, given_up: 0 }, Err(Error::NoEntry)));
     for lba in [1, 6] {
-        two.write(lba, &[0xEE; 512])?;
-        assert_eq!(plain_over(&mut disk, 2, &mut two), Reply::Written);
-        two.compare_and_write(lba, &[0xEE; 512], &[0xA1; 512])?;
-        assert_eq!(plain_over(&mut disk, 2, &mut two), Reply::Swapped);
-        two.write_zeroes(lba, 1)?;
-        assert_eq!(plain_over(&mut disk, 2, &mut two), Reply::Written);
+        let call = two.write(lba, &[0xEE; 512])?;
+        assert_eq!(plain_over(&mut disk, 2, &mut two, call), Reply::Written);
+        let call = two.compare_and_write(lba, &[0xEE; 512], &[0xA1; 512])?;
+        assert_eq!(plain_over(&mut disk, 2, &mut two, call), Reply::Swapped);
+        let call = two.write_zeroes(lba, 1)?;
+        assert_eq!(plain_over(&mut disk, 2, &mut two, call), Reply::Written);
     }
     // and up to the slots: the blocks 0 and 1, 6 and 7
     for lba in [0, 6] {
-        two.write(lba, &[0xEE; 1024])?;
-        assert_eq!(plain_over(&mut disk, 2, &mut two), Reply::Written);
+        let call = two.write(lba, &[0xEE; 1024])?;
+        assert_eq!(plain_over(&mut disk, 2, &mut two, call), Reply::Written);
     }
     for (slot, serial) in [(0, 1), (3, 2)] {
         one.ask_holder(slot)?;
@@ -343,12 +343,12 @@ fn a_plain_host_writes_beside_slots_and_none_of_them() -> Result<(), Error> {
 #[test]
 fn what_a_plain_host_is_answered_about_slots() -> Result<(), Error> {
     let (mut disk, _one, mut two) = beside_slots();
-    two.compare(FIRST, &[0; 512])?;
-    assert_eq!(plain_over(&mut disk, 2, &mut two), Reply::Differs);
-    two.read(FIRST, COUNT)?;
-    // a call under way is the first cause, and a length comes before a slot
-    assert_eq!(writes(&mut two, FIRST, 1), [Err(Error::InCall); 3]);
-    let Reply::Read(data) = plain_over(&mut disk, 2, &mut two) else { panic!("a Read reads") };
+    let call = two.compare(FIRST, &[0; 512])?;
+    assert_eq!(plain_over(&mut disk, 2, &mut two, call), Reply::Differs);
+    let call = two.read(FIRST, COUNT)?;
+    // also with a call under way; and a length comes before a slot
+    assert_eq!(writes(&mut two, FIRST, 1), [Err(Error::CallSlotArea); 3]);
+    let Reply::Read(data) = plain_over(&mut disk, 2, &mut two, call) else { panic!("a Read reads") };
     let names: Vec<_> = data.chunks(512).map(|it| (it[0], it[8])).collect();
     assert_eq!(names, [(1, 1), (0, 0), (0, 0), (1, 2)]);
     assert_eq!((two.write(FIRST, &[]), two.write(FIRST, &[0; 511])), (Err(Error::CallLength), Err(Error::CallLength)));

@@ -1,28 +1,10 @@
 use Rattle.std.proofs.Common.{sym}
-use Rattle.remote_host.proofs.Kept.{asked, no_room, tells}
+use Rattle.remote_host.specs.HostStates.{state_of}
+use Rattle.remote_host.proofs.AtOnce.{told_at_once}
 use Rattle.remote_host.proofs.host.RemoteHost.start_write_zeroes.Goals as goal
-
-pub invariant_of-self : goal.invariant_of-self
-invariant_of-self c =
-    let h = c.self.inside in
-    no_room h.driver h.calls c.next_number.new.calls c.next_number.ensures.same c.self.invariant
-
-pub invariant_of-self-2 : goal.invariant_of-self-2
-invariant_of-self-2 c =
-    let h = c.self.inside in
-    let m = c.next_number in
-    let s = c.start_write_zeroes-started in
-    let e = s.new.self in
-    let x = s.ensures in
-    asked h.driver e _ _ h.calls m.new.calls c.keep.new.calls s.result c.keep.result m.ensures.same x.same x.later
-    x.is c.keep.ensures c.self.invariant
 
 pub returns : goal.returns
 returns c =
-    let h = c.self.inside in
-    let m = c.next_number in
-    let s = c.start_write_zeroes-started in
-    let e = s.new.self in
-    let x = s.ensures in
-    rw (sym c.self.view_is) (tells h.driver e _ _ h.calls m.new.calls c.keep.new.calls s.result c.keep.result
-    m.ensures.same x.same x.later x.is c.keep.ensures)
+    let s = c.start_write_zeroes in
+    rw (sym c.self.view_is) (told_at_once (state_of c.self.inside.host) (state_of s.new.self) _ _ s.result
+    s.ensures.starts)

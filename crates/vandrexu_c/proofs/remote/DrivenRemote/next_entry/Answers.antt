@@ -9,6 +9,7 @@ returns-in_default c =
     rw (sym c.self.view_is) (record {
       untouched = untouched_here d;
       calls = refl;
+      given_up = refl;
       payload = refl;
       next = given_none d.port (option_copied c.peek.result) c.args.entry.now c.args.out.now c.peek.ensures
           (ap option_copied c.in_default.is);
