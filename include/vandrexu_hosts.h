@@ -61,6 +61,9 @@ uint32_t vandrexu_disk_new(const vandrexu_config *config, uint16_t hosts, vandre
  * it then. Nothing is done to one that owns nothing. */
 void vandrexu_disk_free(vandrexu_disk *disk);
 
+/* How many hosts, of either kind, can be made of it yet. */
+uint32_t vandrexu_disk_hosts_left(vandrexu_disk *disk, size_t *count);
+
 /* Fetches the next command, or fused pair, of a submission queue, and makes all that it has to do: 0. At a refusal, as
  * VANDREXU_NO_ENTRY, 8, 11 or VANDREXU_BUSY, what was fetched and isn't finished is kept, and the next call goes on with
  * that, whichever queue it names. */

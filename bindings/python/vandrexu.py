@@ -433,6 +433,7 @@ _ARGUMENTS = {
     "vandrexu_heap_used": [],
     "vandrexu_disk_new": [POINTER(RawConfig), c_uint16, _Disk],
     "vandrexu_disk_free": [_Disk],
+    "vandrexu_disk_hosts_left": [_Disk, POINTER(c_size_t)],
     "vandrexu_disk_serve": [_Disk, c_uint16],
     "vandrexu_disk_fetch": [_Disk, c_uint16],
     "vandrexu_disk_task": [_Disk],
@@ -1188,6 +1189,17 @@ class Disk(_Looked):
         """A slot host of this number, with a driver on this submission queue, for the slots of the disk. It isn't made
         where `host` would make none, nor where the disk has no slots."""
         return SlotHost(self, number, queue)
+
+    def hosts_left(self) -> int:
+        """How many hosts, of either kind, can be made of it yet.
+
+        >>> with Disk(Config(pairs=2), 2) as disk, disk.host(1, 1) as one:
+        ...     disk.hosts_left()
+        1
+        """
+        count = c_size_t()
+        self._ask("vandrexu_disk_hosts_left", byref(count))
+        return count.value
 
     def serve(self, queue: int) -> None:
         """Fetches the next command of a submission queue, or a fused pair, and makes all that it has to do. Where

@@ -63,6 +63,7 @@ static void nothing(void)
     uint8_t out[1] = {9};
     size_t needed = 7, calls = 7, given_up = 7;
     uint32_t call = 7;
+    WANT(vandrexu_disk_hosts_left(&disk, &needed) == VANDREXU_NO_HANDLE && needed == 7);
     WANT(vandrexu_disk_serve(&disk, 1) == VANDREXU_NO_HANDLE);
     WANT(vandrexu_disk_fetch(&disk, 1) == VANDREXU_NO_HANDLE);
     WANT(vandrexu_disk_task(&disk) == VANDREXU_NO_HANDLE);
@@ -84,6 +85,14 @@ static void nothing(void)
     WANT(disk.at == NULL && disk.live == 0 && host.at == NULL && host.live == 0);
 }
 
+/* How many hosts can be made of the disk yet. */
+static size_t left(vandrexu_disk *disk)
+{
+    size_t count = 77;
+    WANT(vandrexu_disk_hosts_left(disk, &count) == VANDREXU_DONE);
+    return count;
+}
+
 /* What a disk and its hosts are refused for; of two causes the first. */
 static void made(void)
 {
@@ -98,7 +107,9 @@ static void made(void)
     WANT(vandrexu_host_new(&disk, 0, 3, &one) == VANDREXU_BAD_NUMBER);
     WANT(vandrexu_host_new(&disk, 1, 0, &one) == VANDREXU_NO_QUEUE);
     WANT(vandrexu_host_new(&disk, 1, 3, &one) == VANDREXU_NO_QUEUE && one.live == 0);
+    WANT(left(&disk) == 1);
     WANT(vandrexu_host_new(&disk, 1, 1, &one) == VANDREXU_DONE);
+    WANT(left(&disk) == 0);
     WANT(vandrexu_host_new(&disk, 1, 1, &one) == VANDREXU_IN_USE);
     WANT(vandrexu_host_new(&none, 0, 0, &one) == VANDREXU_IN_USE);
     WANT(vandrexu_host_new(&disk, 1, 3, &two) == VANDREXU_NO_QUEUE);
@@ -108,7 +119,10 @@ static void made(void)
     WANT(vandrexu_host_new(&disk, 2, 2, &two) == VANDREXU_NO_HOST && two.live == 0);
     vandrexu_host_free(&one);
     vandrexu_host_free(&one);
+    WANT(left(&disk) == 0);
     vandrexu_disk_free(&disk);
+    vandrexu_disk_free(&disk);
+    WANT(vandrexu_disk_new(&config, 3, &disk) == VANDREXU_DONE && left(&disk) == 3);
     vandrexu_disk_free(&disk);
     WANT(vandrexu_disk_new(&config, 0, &disk) == VANDREXU_DONE);
     WANT(vandrexu_host_new(&disk, 1, 1, &one) == VANDREXU_NO_HOST);

@@ -156,6 +156,7 @@ static void second_hosts(void)
     vandrexu_slot_host one = VANDREXU_SLOT_HOST_NONE;
     vandrexu_host two = VANDREXU_HOST_NONE;
     uint32_t call;
+    size_t left;
     WANT(vandrexu_slot_disk_new(&shared, 2, FIRST, COUNT, &disk) == VANDREXU_DONE);
     WANT(vandrexu_slot_host_new(&disk, 1, 1, &one) == VANDREXU_DONE);
     /* the second host of number 1, the third, and so on */
@@ -164,7 +165,9 @@ static void second_hosts(void)
     refused(&disk, 2, 1, VANDREXU_USED_QUEUE);
     refused(&disk, 2, 3, VANDREXU_USED_QUEUE);
     /* what was refused has used no pass, and no number */
+    WANT(vandrexu_disk_hosts_left(&disk, &left) == VANDREXU_DONE && left == 1);
     WANT(vandrexu_host_new(&disk, 2, 4, &two) == VANDREXU_DONE);
+    WANT(vandrexu_disk_hosts_left(&disk, &left) == VANDREXU_DONE && left == 0);
     WANT(vandrexu_host_write(&two, 0, zeros, 512, &call) == VANDREXU_DONE);
     WANT(vandrexu_slot_claim(&one, 0) == VANDREXU_DONE);
     over(&disk, 1, &one, VANDREXU_SLOT_HELD);

@@ -74,6 +74,7 @@ class Hosts(unittest.TestCase):
             self.assertIsInstance(self.refused(Status.NO_QUEUE, disk.host, 1, 3), Refused)
             with disk.host(1, 1) as host:
                 self.refused(Status.NO_HOST, disk.host, 2, 2)
+                self.assertEqual(disk.hosts_left(), 0)
                 self.refused(Status.NO_ENTRY, disk.serve, 1)
                 self.refused(Status.NO_QUEUE, disk.serve, 3)
                 self.refused(Status.NO_ENTRY, disk.fetch, 1)
@@ -180,7 +181,7 @@ class Hosts(unittest.TestCase):
         self.assertEqual(one.poll(one.write(0, A1)), Reply(ReplyKind.PENDING))
         one.close()
         for call, arguments in ((disk.serve, (1,)), (disk.fetch, (1,)), (disk.task, ()),
-                                (disk.forget, ()), (disk.host, (1, 1)),
+                                (disk.forget, ()), (disk.hosts_left, ()), (disk.host, (1, 1)),
                                 (one.read, (0,)), (one.write, (0, A1)), (one.write_zeroes, (0,)),
                                 (one.compare, (0, A1)), (one.compare_and_write, (0, A1, A1)), (one.poll, (0,)),
                                 (one.give_up, (0,)), (one.waiting, ())):

@@ -94,6 +94,7 @@ fn engine_of(
 impl Disk {
     ghost use Rattle.c_handles.specs.Disks.{FetchTells, Finishes, ForgetTells, IsNewDisk, ServesDisk, TaskTells};
     ghost use Rattle.c_handles.specs.Disks.{disk_slots};
+    ghost use Rattle.c_handles.specs.Making.{passes_left};
 
     /// A controller of this configuration with no history, passes for so many hosts, and these slots.
     pub fn of(alloc: Global, config: Config, hosts: u16, slots: Range) -> Result<Disk, NoMemory>
@@ -119,6 +120,13 @@ impl Disk {
         ensures inside { result.slba + result.blocks ≤ 65536 }
     {
         self.slots
+    }
+
+    /// How many hosts can be made of it yet.
+    pub fn hosts_left(&self) -> usize
+        ensures { result ≡ passes_left self.now }
+    {
+        self.passes.len()
     }
 
     /// Fetches the next command, or pair, of a submission queue, and keeps its Work.

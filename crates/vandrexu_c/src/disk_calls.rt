@@ -6,6 +6,7 @@ ghost use Rattle.c_handles.specs.Configurations.{given_numbers};
 ghost use Rattle.c_handles.specs.Disks.{FetchTells, ForgetTells, IsNewDisk, MayRefuseDisk, ServesDisk};
 ghost use Rattle.c_handles.specs.Disks.{TaskTells};
 ghost use Rattle.c_handles.specs.Handles.{disk_in};
+ghost use Rattle.c_handles.specs.Making.{passes_left};
 ghost use Rattle.c_handles.specs.declared.disk.Disk.{Disk as TheDisk};
 
 use crate::lending::{fill, lend};
@@ -55,6 +56,23 @@ pub extern "C" fn vandrexu_disk_free(alloc: Global, disk: &mut DiskHandle)
     ensures { disk_in disk.new ≡ None }
 {
     drop(disk.take(alloc));
+}
+
+/// How many hosts, of either kind, can be made of the disk yet: 0, and `count` has it; or 101 where the handle owns
+/// nothing.
+#[unsafe(no_mangle)]
+pub extern "C" fn vandrexu_disk_hosts_left(
+    alloc: Global,
+    disk: &mut DiskHandle,
+    count: &mut usize,
+) -> u32
+    ensures no_handle { disk_in disk.old ≡ None → (result ≡ 101) × (count.new ≡ count.old) }
+    ensures same { disk_in disk.new ≡ disk_in disk.old }
+    ensures left { (d : TheDisk) → disk_in disk.old ≡ Some d → (result ≡ 0) × (count.new ≡ passes_left d) }
+{
+    let left = lend!(alloc, disk, owned => owned.as_ref().hosts_left());
+    *count = left;
+    0
 }
 
 /// Fetches the next command, or fused pair, of a submission queue, and keeps what it has to do: 0; or the number of the

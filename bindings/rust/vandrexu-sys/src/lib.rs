@@ -420,6 +420,7 @@ unsafe extern "C" {
     pub fn vandrexu_heap_used() -> usize;
     pub fn vandrexu_disk_new(config: *const vandrexu_config, hosts: u16, disk: *mut vandrexu_disk) -> u32;
     pub fn vandrexu_disk_free(disk: *mut vandrexu_disk);
+    pub fn vandrexu_disk_hosts_left(disk: *mut vandrexu_disk, count: *mut usize) -> u32;
     pub fn vandrexu_disk_serve(disk: *mut vandrexu_disk, queue: u16) -> u32;
     pub fn vandrexu_disk_fetch(disk: *mut vandrexu_disk, queue: u16) -> u32;
     pub fn vandrexu_disk_task(disk: *mut vandrexu_disk) -> u32;

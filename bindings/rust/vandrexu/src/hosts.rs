@@ -75,6 +75,26 @@ impl Disk {
         Ok(Host { handle: UnsafeCell::new(handle) })
     }
 
+    /// How many hosts, of either kind, can be made of it yet.
+    ///
+    /// ```
+    /// use vandrexu::{Config, Disk};
+    ///
+    /// let mut disk = Disk::new(&Config { pairs: 2, cqs: 2, ..Config::default() }, 2)?;
+    /// let one = disk.host(1, 1)?;
+    /// assert_eq!(disk.hosts_left(), 1);
+    /// # drop(one);
+    /// # Ok::<(), vandrexu::Error>(())
+    /// ```
+    #[must_use]
+    pub fn hosts_left(&self) -> usize {
+        let mut count = 0;
+        // SAFETY: as in host.
+        let status = unsafe { sys::vandrexu_disk_hosts_left(self.handle.get(), &mut count) };
+        assert_eq!(told(status), Ok(()), "a disk has its handle until it is dropped");
+        count
+    }
+
     /// Fetches the next command of a submission queue, or a fused pair, and makes all that it has to do.
     ///
     /// # Errors

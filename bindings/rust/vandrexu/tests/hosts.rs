@@ -23,7 +23,7 @@ fn what_is_refused() -> Result<(), Error> {
     assert_eq!((disk.host(0, 1).err(), disk.host(1, 3).err()), (Some(Error::BadNumber), Some(Error::NoQueue)));
     let mut host = disk.host(1, 1)?;
     assert_eq!((disk.host(1, 2).err(), disk.host(2, 1).err()), (Some(Error::UsedNumber), Some(Error::UsedQueue)));
-    assert_eq!(disk.host(2, 2).err(), Some(Error::NoHost));
+    assert_eq!((disk.host(2, 2).err(), disk.hosts_left()), (Some(Error::NoHost), 0));
     assert_eq!(
         (disk.serve(1), disk.serve(3), disk.fetch(1)),
         (Err(Error::NoEntry), Err(Error::NoQueue), Err(Error::NoEntry))
