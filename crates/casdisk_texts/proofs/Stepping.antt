@@ -31,7 +31,7 @@ why_refused (Step.Post t) why = refl
 why_refused (Step.Reap q) why = refl
 
 -- where it wasn't for memory the refusal is that of the definitions
-refusal_is : (o : Option Why) (why : Why) → why ≡ unwrap_or o Why.NoMemory → why ≢ Why.NoMemory → o ≡ Some why
+pub refusal_is : (o : Option Why) (why : Why) → why ≡ unwrap_or o Why.NoMemory → why ≢ Why.NoMemory → o ≡ Some why
 refusal_is None why e n = absurd (n e)
 refusal_is (Some x) why e n = ap Some (sym e)
 

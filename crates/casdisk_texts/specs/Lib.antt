@@ -8,6 +8,7 @@ pub mod Files
 pub mod Entries
 pub mod Judged
 pub mod Checked
+pub mod Remade
 pub mod Followed
 pub mod Explained
 pub mod Kinds

@@ -21,7 +21,7 @@ use std::io::{Read, Result as IoResult, Write};
 use trace::{Seen, TraceOptions};
 use witness_check::{Difference, TraceVerdict, judge, judge_delayed};
 
-fn same_config(one: &Config, other: &Config) -> bool
+pub(crate) fn same_config(one: &Config, other: &Config) -> bool
     ensures value { (result ≡ true) ↔ (one.now ≡ other.now) }
 {
     one.numbers() == other.numbers()

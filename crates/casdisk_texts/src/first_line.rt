@@ -7,6 +7,7 @@ ghost use Rattle.line_text.specs.Lines.{whole_lines};
 ghost use Rattle.nvme_model.specs.declared.config.ConfigNumbers.{ConfigNumbers};
 ghost use Rattle.casdisk_texts.specs.Followed.{StopsFirst};
 ghost use Rattle.casdisk_texts.specs.Meaning.{Meaning};
+ghost use Rattle.casdisk_texts.specs.Remade.{IsFirstLine, LacksFirstLine};
 ghost use Rattle.casdisk_texts.specs.Running.{PrintsFront, Reached, RunsScript};
 ghost use Rattle.casdisk_texts.specs.Script.{first_config, script_outcome};
 
@@ -42,6 +43,9 @@ pub fn read_first<R: Read>(
         (λ c. IfSome (R.remaining reader.old) (λ bytes. first_config (whole_lines bytes) ≡ Some c)) }
     ensures read { IfErr result (λ f. f ≢ RunFault.Output) }
     ensures first { IfErr result (λ f. StopsFirst f (R.remaining reader.old) (R.remaining reader.new)) }
+    ensures line { IfOk result
+        (λ c. IsFirstLine c line.new.items (R.remaining reader.old) (R.remaining reader.new) lines.new) }
+    ensures none { IfErr result (λ f. LacksFirstLine f (R.remaining reader.old) (R.remaining reader.new)) }
 {
     match lines.next_line(reader, line) {
         Err(fault) => return Err(read_fault(fault)),

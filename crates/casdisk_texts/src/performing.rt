@@ -39,7 +39,7 @@ pub(crate) struct Performer<J: Watch + Drop> {
     pub(crate) text: Vec<u8>,
 }
 
-fn why_of(refused: &Refused) -> Why
+pub(crate) fn why_of(refused: &Refused) -> Why
     ensures { result ≡ the_why_of refused.now }
 {
     match refused {
@@ -49,7 +49,7 @@ fn why_of(refused: &Refused) -> Why
 }
 
 // Writes a text at once.
-fn send_text<W: Write>(text: &[u8], writer: &mut W) -> Result<(), WriteFault>
+pub(crate) fn send_text<W: Write>(text: &[u8], writer: &mut W) -> Result<(), WriteFault>
     ensures told { OnOk result (Appends (W.contents writer.old) (W.contents writer.new) text.now) }
     ensures stopped { OnErr result (AppendsFront (W.contents writer.old) (W.contents writer.new) text.now) }
 {

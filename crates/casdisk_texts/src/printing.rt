@@ -14,7 +14,7 @@ use std::io::{Result as IoResult, Write};
 use step_core::Core;
 
 // The kind of an entry's line.
-fn kind_of(entry: &Entry) -> Kinds
+pub(crate) fn kind_of(entry: &Entry) -> Kinds
     ensures { result.0 ≡ the_kind_of entry.now }
 {
     match entry {

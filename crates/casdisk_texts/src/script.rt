@@ -22,7 +22,7 @@ use std::io::{Read, Write};
 use step_core::Core;
 
 // Reads the first line, writes it, and makes the controller that it says.
-fn begin_script<R: Read, W: Write>(
+pub(crate) fn begin_script<R: Read, W: Write>(
     alloc: Global,
     lines: &mut Lines,
     line: &mut Vec<u8>,

@@ -1,6 +1,7 @@
 use Rattle.std.proofs.Common.{Err, ap, inl, inr}
 use Rattle.casdisk_texts.proofs.Beginning.{ends_first, ends_no_config, ends_wrong_config, front_config, lost_first}
 use Rattle.casdisk_texts.proofs.Beginning.{reached_first, known_config}
+use Rattle.casdisk_texts.proofs.FirstLine.{lacks_config, lacks_line, lacks_read, refused_config}
 use Rattle.casdisk_texts.proofs.Followed.{lost_file}
 use Rattle.casdisk_texts.proofs.first_line.read_first.Goals as goal
 
@@ -51,3 +52,26 @@ pub returns-in-Err-clause-first : goal.returns-in-Err-clause-first
 returns-in-Err-clause-first g c =
     let front = rw c.requires.fresh at c.in-Err.ensures.err in
     rw c.read_fault.ensures.cause (lost_file c.in-Err.fault _ _ _ _ front (λ e. c.in-Err.ensures.input (ap Err e)))
+
+pub returns-in-Err-clause-none : goal.returns-in-Err-clause-none
+returns-in-Err-clause-none g c =
+    let front = rw c.requires.fresh at c.in-Err.ensures.err in
+    rw c.read_fault.ensures.cause (lacks_read c.in-Err.fault _ _ _ _ front (λ e. c.in-Err.ensures.input (ap Err e)))
+
+pub returns-in-Ok-Rest-clause-none : goal.returns-in-Ok-Rest-clause-none
+returns-in-Ok-Rest-clause-none g c =
+    let x = rw (c.in-Ok-Rest.field-0-is, c.requires.fresh) at c.in-Ok-Rest.ensures.line in
+    lacks_line _ _ _ _ x.0 x.1 x.2 x.3
+
+pub returns-in-Err-Malformed-clause-none : goal.returns-in-Err-Malformed-clause-none
+returns-in-Err-Malformed-clause-none g c =
+    let x = rw (c.in-Ok-Whole.field-0-is, c.requires.fresh) at c.in-Ok-Whole.ensures.line in
+    lacks_config _ _ _ _ x.0 x.1
+    (rw (c.in-Err-Malformed.field-0-is, c.as_slice.ensures.value) at c.in-Err-Malformed.ensures.value)
+
+pub returns-in-Err-from_numbers-clause-none : goal.returns-in-Err-from_numbers-clause-none
+returns-in-Err-from_numbers-clause-none g c =
+    let x = rw (c.in-Ok-Whole.field-0-is, c.requires.fresh) at c.in-Ok-Whole.ensures.line in
+    let said = rw c.as_slice.ensures.value at c.in-Ok.ensures.value in
+    rw c.number.ensures (refused_config _ _ _ _ x.0 x.1 c.in-Ok.numbers c.in-Err-from_numbers.fault said
+    c.in-Err-from_numbers.ensures.fault)
