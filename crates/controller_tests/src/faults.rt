@@ -2,7 +2,9 @@
 
 use crate::failing::{FailingReader, FailingWriter};
 use crate::files::file_of;
-use casdisk_texts::{RunFault, check_text, follow_text, run_checked, run_script};
+use casdisk_texts::{
+    FromFault, RunFault, check_text, follow_text, run_checked, run_from, run_script,
+};
 use history::all_kinds;
 use std::alloc::Global;
 use std::io::ErrorKind;
@@ -14,13 +16,14 @@ use std::test::Fail;
 enum TextWork {
     Run,
     RunChecked,
+    RunFrom,
     Check,
     Follow,
 }
 
-/// Whether a script is run.
+/// Whether it prints as it reads.
 fn is_run(work: TextWork) -> bool {
-    work == TextWork::Run || work == TextWork::RunChecked
+    work == TextWork::Run || work == TextWork::RunChecked || work == TextWork::RunFrom
 }
 
 /// A pair that wins, and a Read of what it wrote.
@@ -31,6 +34,9 @@ const SCRIPT: &str =
 const WRITE: &str =
     "publish 1 01000100010000000000000000000000000000000000000000000000000000000000000000000000030000000000000000000000000000000000000000000000 A1 / fetch 1 1 1 ok / grant 1 0 3 1 w / block 1 0 3 written * / post 1 00000000000000000100010001000100 - / reap 1 00000000000000000100010001000100";
 
+/// A script that goes on from it.
+const BEHIND: &[u8] = b"config 8 1 1 0 0 2 4 4 8\nmedium 3\n";
+
 /// That history without its mark, so that nothing is owed.
 const UNMARKED: &str =
     "publish 1 01000100010000000000000000000000000000000000000000000000000000000000000000000000030000000000000000000000000000000000000000000000 A1 / fetch 1 1 1 ok / grant 1 0 3 1 w / block 1 0 3 written - / post 1 00000000000000000100010001000100 - / reap 1 00000000000000000100010001000100";
@@ -39,6 +45,7 @@ const UNMARKED: &str =
 const ENDED: &[(TextWork, &str)] = &[
     (TextWork::Run, SCRIPT),
     (TextWork::RunChecked, SCRIPT),
+    (TextWork::RunFrom, WRITE),
     (TextWork::Check, WRITE),
     (TextWork::Check, UNMARKED),
     (TextWork::Follow, WRITE),
@@ -87,6 +94,20 @@ struct MadeText {
     output: Vec<u8>,
 }
 
+/// Goes on from a history; whether it is made once more.
+fn go_on_from(
+    alloc: Global,
+    history: &mut FailingReader<'_>,
+    writer: &mut FailingWriter,
+) -> Result<bool, RunFault> {
+    let mut script: &[u8] = BEHIND;
+    match run_from(alloc, history, &mut script, writer, all_kinds()) {
+        Ok(()) => Ok(true),
+        Err(FromFault::Differs(_) | FromFault::OtherConfig) => Ok(false),
+        Err(FromFault::History(fault) | FromFault::Script(fault)) => Err(fault),
+    }
+}
+
 /// Runs a script, or checks a history; whether all is well.
 fn answer_of(
     alloc: Global,
@@ -103,6 +124,7 @@ fn answer_of(
             Ok(bad) => Ok(bad.is_none()),
             Err(fault) => Err(fault),
         },
+        TextWork::RunFrom => go_on_from(alloc, reader, writer),
         TextWork::Check => check_text(alloc, reader, writer),
         TextWork::Follow => follow_text(alloc, reader, writer),
     }

@@ -7,11 +7,14 @@ use std::fs;
 
 /// Command lines, without the program's name. Words in capitals name files (`give` makes them, but for `FOUND` and `REFUTING`,
 /// which the program may write); behind `<` stands what standard input has.
-pub const ASKED: [&str; 72] = [
+pub const ASKED: [&str; 75] = [
     "run SCRIPT",
     "run --why SCRIPT",
     "run --flush SCRIPT",
     "run --check SCRIPT",
+    "run --from HISTORY FURTHER",
+    "run --from HISTORY --why SCRIPT",
+    "run --from WRONG FURTHER",
     "run --show publish,reap SCRIPT",
     "run --trace SCRIPT",
     "run --trace --why SCRIPT",
@@ -111,8 +114,9 @@ fn printed(casdisk: &Program, words: &str) -> Vec<u8> {
     output
 }
 
-// Makes the files of this thread's folder: a script, a history, it without its fifth line, what hosts saw of it and of another
-// one, what they saw of a Read, the same with data that nobody wrote, and what refutes that; answers for `shrink`.
+// Makes the files of this thread's folder: a script, a history, it without its fifth line, a script that goes on from it, what
+// hosts saw of it and of another one, what they saw of a Read, the same with data that nobody wrote, and what refutes that;
+// answers for `shrink`.
 fn give(casdisk: &Program) {
     let race = format!("{RACE} --seed 5");
     let history = printed(casdisk, &race);
@@ -121,6 +125,8 @@ fn give(casdisk: &Program) {
     casdisk.put("SCRIPT", &printed(casdisk, "random --seed 7 --lines 40 --like pairs"));
     casdisk.put("WRONG", &wrong.concat());
     casdisk.put("HISTORY", &history);
+    let first = history.split_inclusive(|byte| *byte == b'\n').next().expect("a configuration line");
+    casdisk.put("FURTHER", &[first, b"settle\n"].concat());
     casdisk.put("SEEN", &printed(casdisk, &format!("{race} --trace")));
     casdisk.put("OTHER", &printed(casdisk, &format!("{RACE} --seed 6 --trace")));
     let script = casdisk.put("script of a Read", READ.as_bytes());
