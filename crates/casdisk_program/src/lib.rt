@@ -9,6 +9,7 @@ mod counter;
 mod culprit;
 mod drawing;
 mod failure;
+mod going_on;
 mod in_flight;
 mod in_words;
 mod input;

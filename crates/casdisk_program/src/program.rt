@@ -4,6 +4,7 @@ use crate::certify::{certify_files, logged_so};
 use crate::checking::{check_file, check_why_file, explain_file};
 use crate::drawing::{draw_file, lanes_of};
 use crate::failure::{Failure, end_failure, end_fault, failure_of};
+use crate::going_on::run_from_files;
 use crate::in_words::tell_file;
 use crate::input::opened;
 use crate::observing::{ProofFiles, observe_file};
@@ -119,10 +120,19 @@ fn finish<R: Threads + Wait + Sync + Files + Clock + Env + Input + Print + Eprin
         } => trace_run(rt, why, file),
         Asked::Run {
             shown: Shown::Kinds(kinds),
+            from: Some(history),
+            flush,
+            why,
+            file,
+            ..
+        } => Ok(run_from_files(rt, kinds, flush, why, history, file)),
+        Asked::Run {
+            shown: Shown::Kinds(kinds),
             check,
             flush,
             why,
             file,
+            ..
         } => run_file(rt, kinds, check, flush, why, file),
         Asked::Check {
             area: Some(area),

@@ -82,7 +82,7 @@ named words name rows e = e
 -- what a command's options ask for is what the words ask for
 pub by_command : (words : List Text) (name : Text) (rows : List Row) → subcommand_in words ≡ Some (name, rows)
     → (a : Asked) → AsksBy name rows a → Asks words a
-by_command words name rows e (Asked.Run shown check flush why file) h = (name, rows, e, h)
+by_command words name rows e (Asked.Run shown from check flush why file) h = (name, rows, e, h)
 by_command words name rows e (Asked.Check follow area quiet json why file) h = (name, rows, e, h)
 by_command words name rows e (Asked.Explain follow area json why file) h = (name, rows, e, h)
 by_command words name rows e (Asked.Certify delayed json why trace history) h = (name, rows, e, h)

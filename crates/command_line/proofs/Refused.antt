@@ -80,7 +80,7 @@ module _ (words : List Text) (e : Error) (none : are_words_taken words ≡ true 
   by_showing (Asked.Show text) h =
       gives words IsShowing e (kind_of e) refl (shown _ h) h
       (not_true (are_words_taken words) (kind_of e ≡ ErrorKind.OutOfMemory) none (shown _ h)) kinds
-  by_showing (Asked.Run shown check flush why file) h = absurd h
+  by_showing (Asked.Run shown from check flush why file) h = absurd h
   by_showing (Asked.Check follow area quiet json why file) h = absurd h
   by_showing (Asked.Explain follow area json why file) h = absurd h
   by_showing (Asked.Certify delayed json why trace history) h = absurd h

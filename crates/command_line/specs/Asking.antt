@@ -84,9 +84,25 @@ SaysArea rows (Some area) = (words : List Text) × (all_of (codes "slots") rows 
 abbrev pub AreTwoInputs : Text → Text → Type 0
 AreTwoInputs trace history = trace ≡ codes "-" → history ≡ codes "-" → ⊥
 
+-- two files, of which the first may be left out, are both standard input
+abbrev pub is_one_input : Option Text → Text → Bool
+is_one_input None file = false
+is_one_input (Some beside) file = bytes_eq beside (codes "-") && bytes_eq file (codes "-")
+
+-- the history that a run goes on from, none where the options name none; where one is named neither a trace nor a check
+-- is asked for
+abbrev pub GoesOnFrom : List Row → Option (Bor Text) → Type 0
+GoesOnFrom rows None = first_of (codes "from") rows ≡ None
+GoesOnFrom rows (Some history) =
+    (first_of (codes "from") rows ≡ Some history.now)
+    × SaysFlag (codes "trace") rows false × SaysFlag (codes "check") rows false
+
 -- what the options of `run` say
-pub record SaysRun (rows : List Row) (shown : Shown) (check flush why : Bool) (file : Text) : Type 0 where
+pub record SaysRun (rows : List Row) (shown : Shown) (from : Option (Bor Text)) (check flush why : Bool) (file : Text)
+    : Type 0 where
   pub what : SaysShown rows shown
+  pub begins : GoesOnFrom rows from
+  pub two : is_one_input (first_of (codes "from") rows) file ≡ false
   pub judges : SaysFlag (codes "check") rows check
   pub flushes : SaysFlag (codes "flush") rows flush
   pub reason : SaysFlag (codes "why") rows why
@@ -161,11 +177,6 @@ abbrev pub IsStepRange : List Row → (from to : Option ℕ) → Type 0
 IsStepRange rows from to =
     MaySayNumber (codes "from") rows from × MaySayNumber (codes "to") rows to × (is_step_range from to ≡ true)
 
--- a trace and a history are both standard input
-abbrev pub is_one_input : Option Text → Text → Bool
-is_one_input None file = false
-is_one_input (Some trace) file = bytes_eq trace (codes "-") && bytes_eq file (codes "-")
-
 -- what the options of `draw` say
 pub record SaysDraw (rows : List Row) (from to : Option ℕ) (blocks : Bool) (area : Option SlotArea)
     (trace : Option (Bor Text)) (why : Bool) (file : Text) : Type 0 where
@@ -210,8 +221,8 @@ IsNoRace rows = (hosts workers slots rounds queues : ℕ) → SaysNumbers rows h
 
 -- what the options of a command of this name ask for
 abbrev pub AsksBy : Text → List Row → Asked → Type 0
-AsksBy name rows (Asked.Run shown check flush why file) =
-    (name ≡ codes "run") × SaysRun rows shown check flush why file.now
+AsksBy name rows (Asked.Run shown from check flush why file) =
+    (name ≡ codes "run") × SaysRun rows shown from check flush why file.now
 AsksBy name rows (Asked.Check follow area quiet json why file) =
     (name ≡ codes "check") × SaysCheck rows follow area quiet json why file.now
 AsksBy name rows (Asked.Explain follow area json why file) =
@@ -280,6 +291,12 @@ IsNotShown rows =
     ⊎ (SaysFlag (codes "trace") rows true × SaysFlag (codes "check") rows true)
     ⊎ (kinds_asked (first_of (codes "show") rows) ≡ None)
 
+-- a history to go on from is named, and a trace or a check is asked for
+abbrev pub IsNoBeginning : List Row → Type 0
+IsNoBeginning rows =
+    (is_some (first_of (codes "from") rows) ≡ true)
+    × (SaysFlag (codes "trace") rows true ⊎ SaysFlag (codes "check") rows true)
+
 -- words stand behind `--slots` that are the numbers of no area
 abbrev pub IsNoArea : List Row → Type 0
 IsNoArea rows =
@@ -299,11 +316,10 @@ IsNoRange rows =
     (from : Option ℕ) × (to : Option ℕ) × MaySayNumber (codes "from") rows from × MaySayNumber (codes "to") rows to
     × (is_step_range from to ≡ false)
 
--- the trace and the history that are named are both standard input
-abbrev pub IsOneInput : List Row → Type 0
-IsOneInput rows =
-    (file : Text) × (first_of (codes "FILE") rows ≡ Some file)
-    × (is_one_input (first_of (codes "trace") rows) file ≡ true)
+-- the file that this option names and the other one are both standard input
+abbrev pub IsOneInput : Text → List Row → Type 0
+IsOneInput name rows =
+    (file : Text) × (first_of (codes "FILE") rows ≡ Some file) × (is_one_input (first_of name rows) file ≡ true)
 
 -- no trace or no file of this name is named, or both are standard input
 abbrev pub AreNoInputs : Text → List Row → Type 0
@@ -329,14 +345,14 @@ IsNoScript rows = (first_of (codes "SCRIPT") rows ≡ None) ⊎ (first_of (codes
 -- those of no race. There is no other command.
 abbrev pub AskNothing : Text → List Row → Type 0
 AskNothing name rows =
-    ((name ≡ codes "run") × (IsNoFile rows ⊎ IsNotShown rows))
+    ((name ≡ codes "run") × (IsNoFile rows ⊎ IsNotShown rows ⊎ IsNoBeginning rows ⊎ IsOneInput (codes "from") rows))
     ⊎ ((name ≡ codes "check") × (IsNoFile rows ⊎ IsNoArea rows ⊎ FollowsArea rows))
     ⊎ ((name ≡ codes "explain") × (IsNoFile rows ⊎ IsNoArea rows ⊎ FollowsArea rows))
     ⊎ ((name ≡ codes "race") × IsNoRace rows)
     ⊎ ((name ≡ codes "certify") × AreNoInputs (codes "HISTORY") rows)
     ⊎ ((name ≡ codes "observe") × IsNoSearch rows)
     ⊎ ((name ≡ codes "tell") × (IsNoFile rows ⊎ IsNoColor rows))
-    ⊎ ((name ≡ codes "draw") × (IsNoFile rows ⊎ IsNoArea rows ⊎ IsNoRange rows ⊎ IsOneInput rows))
+    ⊎ ((name ≡ codes "draw") × (IsNoFile rows ⊎ IsNoArea rows ⊎ IsNoRange rows ⊎ IsOneInput (codes "trace") rows))
     ⊎ ((name ≡ codes "random") × IsNoRandom rows)
     ⊎ ((name ≡ codes "shrink") × IsNoScript rows)
     ⊎ ((name ≡ codes "refute") × AreNoInputs (codes "REFUTATION") rows)

@@ -50,12 +50,16 @@ argument_rule (Number value) name = number_rule name
 argument_rule (Needed value) name = needed_rule name
 argument_rule (NumberOr value number) name = default_rule name number.now
 
+-- a command with what of a run is shown
+abbrev pub with_shown_rules : App → App
+with_shown_rules a = with_rule (with_rule a (text_rule (codes "show"))) (flag_rule (codes "trace"))
+
 -- the command `run` with its options
 abbrev pub run_app : App
 run_app =
-    with_rule (with_rule (with_rule (with_rule (with_rule (with_rule (new_app (codes "run"))
-    (text_rule (codes "show"))) (flag_rule (codes "trace"))) (flag_rule (codes "check"))) (flag_rule (codes "flush")))
-    (flag_rule (codes "why"))) (input_rule (codes "FILE"))
+    with_rule (with_rule (with_rule (with_rule (with_rule (with_shown_rules (new_app (codes "run")))
+    (flag_rule (codes "check"))) (text_rule (codes "from"))) (flag_rule (codes "flush"))) (flag_rule (codes "why")))
+    (input_rule (codes "FILE"))
 
 -- the command `check` with its options
 abbrev pub check_app : App

@@ -106,12 +106,12 @@ fn range_asked(alloc: Global, matches: &ArgMatches<'_>) -> Result<StepRange, Usa
     }
 }
 
-// Whether the trace and the history are both standard input.
-fn is_one_input(trace: Option<&str>, file: &str) -> bool
-    ensures value { result ≡ is_one_input (option_map (λ t. t.now) trace.entry) file.now }
+// Whether a file, where one is named, and another are both standard input.
+pub(crate) fn is_one_input(beside: Option<&str>, file: &str) -> bool
+    ensures value { result ≡ is_one_input (option_map (λ t. t.now) beside.entry) file.now }
 {
-    match trace {
-        Some(trace) => trace == "-" && file == "-",
+    match beside {
+        Some(beside) => beside == "-" && file == "-",
         None => false,
     }
 }

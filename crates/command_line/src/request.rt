@@ -38,9 +38,11 @@ pub enum Shown {
 #[derive(Drop)]
 pub enum Asked<'a> {
     /// To run the script in this file; where it checks, each step is judged as it is made, and never where its trace is
-    /// shown; where it flushes, each line is sent as soon as it is made.
+    /// shown; where it flushes, each line is sent as soon as it is made. It goes on from the history in another file,
+    /// where one is named, and never where it checks or shows its trace.
     Run {
         shown: Shown,
+        from: Option<&'a str>,
         check: bool,
         flush: bool,
         why: bool,
