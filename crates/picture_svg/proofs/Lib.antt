@@ -1,3 +1,4 @@
 pub mod Chains
 pub mod GoingOn
 pub mod Whole
+pub mod Paged

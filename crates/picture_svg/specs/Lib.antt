@@ -15,3 +15,4 @@ pub mod Seen
 pub mod Page
 pub mod Drawn
 pub mod Drawing
+pub mod WebPage

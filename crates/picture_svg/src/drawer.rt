@@ -4,8 +4,8 @@ ghost use Rattle.std.specs.Prelude.{◌≡◌, [], IfOk, List, OnOk, ℕ};
 ghost use Rattle.picture_svg.specs.Drawn.{HasDrawn, drawn_next, steps_to};
 ghost use Rattle.picture_svg.specs.declared.drawer.DrawOptions.{DrawOptions};
 
-use broken_rules::Broken;
-use casdisk_texts::{BadStep, EntryMeaning, Explained, FirstBad, Judge};
+use crate::web_page::explained_by;
+use casdisk_texts::{EntryMeaning, FirstBad, Judge};
 use history::{Config, Entry};
 use picture_shapes::{Aspect, Picture, PictureWords};
 use std::alloc::{AllocError as NoMemory, Global};
@@ -42,11 +42,8 @@ pub(crate) fn steps_to(options: &DrawOptions, place: u64) -> u64
 }
 
 // Says which rule the first bad step breaks.
-fn bad_words(alloc: Global, place: u64, broken: Option<Broken>) -> Result<PictureWords, NoMemory> {
-    let Some(broken) = broken else {
-        return Ok(PictureWords::new(String::new(alloc)));
-    };
-    let words = Explained::BadAt(BadStep { place, broken }).to_string(alloc)?;
+fn bad_words(alloc: Global, bad: FirstBad) -> Result<PictureWords, NoMemory> {
+    let words = explained_by(bad).to_string(alloc)?;
     Ok(PictureWords::new(words))
 }
 
@@ -69,7 +66,7 @@ fn draw(
     if bad.place.is_none() {
         return picture.take(config, place, entry);
     }
-    let words = bad_words(alloc, place, bad.broken)?;
+    let words = bad_words(alloc, bad)?;
     picture.take_bad(place, entry, words)
 }
 

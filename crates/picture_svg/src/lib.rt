@@ -1,4 +1,5 @@
-//! Draws a history as SVG text, for the program: its steps in columns, with lanes of blocks and of slots.
+//! Draws a history as SVG text, for the program: its steps in columns, with lanes of blocks and of slots. And writes
+//! the data of a web page in which a script shows it.
 #![tactic(auto)]
 
 mod boxes;
@@ -23,6 +24,7 @@ mod slot_holders;
 mod spans;
 mod style;
 mod tickets;
+mod web_page;
 
 pub use crate::boxes::{Frame, push_rect, push_words};
 pub use crate::columns::{Columns, room, top_of};
@@ -33,3 +35,4 @@ pub use crate::lane_rows::push_lanes;
 pub use crate::layout::Layout;
 pub use crate::page::picture_text;
 pub use crate::pieces::{Piece, push_all};
+pub use crate::web_page::page_text;
