@@ -90,6 +90,7 @@ by_command words name rows e (Asked.Refute json why trace refutation) h = (name,
 by_command words name rows e (Asked.Observe witness refutation steps json why trace) h = (name, rows, e, h)
 by_command words name rows e (Asked.Tell color json why file) h = (name, rows, e, h)
 by_command words name rows e (Asked.Draw from to blocks area trace why file) h = (name, rows, e, h)
+by_command words name rows e (Asked.Page why file) h = (name, rows, e, h)
 by_command words name rows e (Asked.Random seed lines config like) h = (name, rows, e, h)
 by_command words name rows e (Asked.Shrink why script) h = (name, rows, e, h)
 by_command words name rows e (Asked.Race r crash seed seeds bias trace quiet json why) h = (name, rows, e, h)

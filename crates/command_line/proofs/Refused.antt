@@ -88,6 +88,7 @@ module _ (words : List Text) (e : Error) (none : are_words_taken words ≡ true 
   by_showing (Asked.Observe witness refutation steps json why trace) h = absurd h
   by_showing (Asked.Tell color json why file) h = absurd h
   by_showing (Asked.Draw from to blocks area trace why file) h = absurd h
+  by_showing (Asked.Page why file) h = absurd h
   by_showing (Asked.Random seed lines config like) h = absurd h
   by_showing (Asked.Shrink why script) h = absurd h
   by_showing (Asked.Race race crash seed seeds bias trace quiet json why) h = absurd h

@@ -1,6 +1,6 @@
 -- What a command line asks for.
 use Rattle.std.specs.Prelude.{Bool, List, None, Ok, Option, Some, [], bytes_eq, codes, false, if◌then◌else◌, is_some}
-use Rattle.std.specs.Prelude.{nat_le, option_map, true, unwrap_or, ◌&&◌, ◌-◌, ◌^◌, ◌≡◌, ◌≢◌, ◌∷◌, ◌⊎◌, ℕ}
+use Rattle.std.specs.Prelude.{nat_le, option_map, true, unwrap_or, ◌&&◌, ◌-◌, ◌^◌, ◌||◌, ◌≡◌, ◌≢◌, ◌∷◌, ◌⊎◌, ℕ}
 use Rattle.std.specs.Borrow.{Bor}
 use Rattle.std.specs.Str.Parse.{ParsesUnsigned}
 use Rattle.std.specs.declared.num.ParseIntError.{ParseIntError}
@@ -188,6 +188,14 @@ pub record SaysDraw (rows : List Row) (from to : Option ℕ) (blocks : Bool) (ar
   pub reason : SaysFlag (codes "why") rows why
   pub reads : SaysText (codes "FILE") rows file
 
+-- whether options name a part of a history, or what a picture shows besides
+abbrev pub names_part : (from to : Option ℕ) → Bool → Option SlotArea → Option (Bor Text) → Bool
+names_part from to blocks area trace = is_some from || is_some to || blocks || is_some area || is_some trace
+
+-- What the options of `draw` say where a page is asked for, which has the whole history: none of a picture's.
+abbrev pub SaysPage : List Row → Bool → Text → Type 0
+SaysPage rows why file = SaysFlag (codes "page") rows true × SaysDraw rows None None false None None why file
+
 -- what the options of `random` say
 pub record SaysRandom (rows : List Row) (seed lines : ℕ) (config like : Option (Bor Text)) : Type 0 where
   pub begins : SaysNumber (codes "seed") rows seed
@@ -237,7 +245,8 @@ AsksBy name rows (Asked.Observe witness refutation steps json why trace) =
     (name ≡ codes "observe") × SaysObserve rows witness refutation steps json why trace.now
 AsksBy name rows (Asked.Tell color json why file) = (name ≡ codes "tell") × SaysTell rows color json why file.now
 AsksBy name rows (Asked.Draw from to blocks area trace why file) =
-    (name ≡ codes "draw") × SaysDraw rows from to blocks area trace why file.now
+    (name ≡ codes "draw") × SaysFlag (codes "page") rows false × SaysDraw rows from to blocks area trace why file.now
+AsksBy name rows (Asked.Page why file) = (name ≡ codes "draw") × SaysPage rows why file.now
 AsksBy name rows (Asked.Random seed lines config like) =
     (name ≡ codes "random") × SaysRandom rows seed lines config like
 AsksBy name rows (Asked.Shrink why script) = (name ≡ codes "shrink") × SaysShrink rows why script.now
@@ -321,6 +330,14 @@ abbrev pub IsOneInput : Text → List Row → Type 0
 IsOneInput name rows =
     (file : Text) × (first_of (codes "FILE") rows ≡ Some file) × (is_one_input (first_of name rows) file ≡ true)
 
+-- a page is asked for, and a part of a history or what a picture shows besides
+abbrev pub IsPageOfPart : List Row → Type 0
+IsPageOfPart rows =
+    SaysFlag (codes "page") rows true
+    × ((from : Option ℕ) × (to : Option ℕ) × (blocks : Bool) × (area : Option SlotArea) × (trace : Option (Bor Text))
+    × (file : Text) × (why : Bool) × SaysDraw rows from to blocks area trace why file
+    × (names_part from to blocks area trace ≡ true))
+
 -- no trace or no file of this name is named, or both are standard input
 abbrev pub AreNoInputs : Text → List Row → Type 0
 AreNoInputs name rows =
@@ -352,7 +369,8 @@ AskNothing name rows =
     ⊎ ((name ≡ codes "certify") × AreNoInputs (codes "HISTORY") rows)
     ⊎ ((name ≡ codes "observe") × IsNoSearch rows)
     ⊎ ((name ≡ codes "tell") × (IsNoFile rows ⊎ IsNoColor rows))
-    ⊎ ((name ≡ codes "draw") × (IsNoFile rows ⊎ IsNoArea rows ⊎ IsNoRange rows ⊎ IsOneInput (codes "trace") rows))
+    ⊎ ((name ≡ codes "draw")
+    × (IsNoFile rows ⊎ IsNoArea rows ⊎ IsNoRange rows ⊎ IsOneInput (codes "trace") rows ⊎ IsPageOfPart rows))
     ⊎ ((name ≡ codes "random") × IsNoRandom rows)
     ⊎ ((name ≡ codes "shrink") × IsNoScript rows)
     ⊎ ((name ≡ codes "refute") × AreNoInputs (codes "REFUTATION") rows)

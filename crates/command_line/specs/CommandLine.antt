@@ -133,8 +133,8 @@ with_lane_rules a =
 -- the command `draw` with its options
 abbrev pub draw_app : App
 draw_app =
-    with_rule (with_rule (with_lane_rules (with_range_rules (new_app (codes "draw")))) (flag_rule (codes "why")))
-    (input_rule (codes "FILE"))
+    with_rule (with_rule (with_rule (with_lane_rules (with_range_rules (new_app (codes "draw"))))
+    (flag_rule (codes "page"))) (flag_rule (codes "why"))) (input_rule (codes "FILE"))
 
 -- the command `random` with its options
 abbrev pub random_app : App

@@ -1,9 +1,9 @@
 //! The command `draw`.
 
-ghost use Rattle.std.specs.Prelude.{◌≡◌, IfErr, IfOk, codes, is_none, option_map};
+ghost use Rattle.std.specs.Prelude.{◌≡◌, IfErr, IfOk, None, codes, false, is_none, option_map};
 ghost use Rattle.clap.specs.Words.{app_of, found_of, rows_of};
 ghost use Rattle.command_line.specs.Asking.{AsksBy, HasCause, IsNoRange, IsRaceInRange, IsStepRange, IsRefusedBy};
-ghost use Rattle.command_line.specs.Asking.{is_one_input, is_step_range};
+ghost use Rattle.command_line.specs.Asking.{is_one_input, is_step_range, names_part};
 ghost use Rattle.command_line.specs.CommandLine.{draw_app, with_lane_rules, with_range_rules};
 
 use crate::area::area_asked;
@@ -11,7 +11,7 @@ use crate::options::Argument::{Area, Flag, Input, Number, Text};
 use crate::options::{
     HISTORY, NO_FILE, WHY, flag_asked, number_may_be, text_asked, text_needed, text_of, with,
 };
-use crate::request::{Asked, UsageFault};
+use crate::request::{Asked, SlotArea, UsageFault};
 use clap::{ArgMatches, Command};
 use std::alloc::{AllocError, Global};
 
@@ -21,6 +21,11 @@ const SLOTS: &str =
     "Show who holds each slot and is believed to, on COUNT blocks from block FIRST on";
 
 const TRACE: &str = "Draw it only if it explains what hosts saw, and show what they saw";
+
+const PAGE: &str = "Write a web page in which to look into the whole history";
+
+const PAGE_IS_WHOLE: &str =
+    "error: '--page' has the whole history: it excludes '--from', '--to', '--blocks', '--slots' and '--trace'";
 
 const FROM_IS_0: &str = "error: '--from' is the place of a step, from 1";
 
@@ -36,6 +41,9 @@ docs/DRAWING.md.
 
 With --trace, a history that doesn't explain TRACE isn't drawn: what is printed then is what
 'casdisk certify TRACE FILE' prints.
+
+With --page what is printed is one HTML file, which needs no network: a picture to scroll and to
+search, with what is so behind each step. It has each step up to the first bad one, however many.
 
 Exit status: 0 where it is drawn, 1 where the history isn't legal or doesn't explain the trace, 2
 after a bad line or configuration, where the slots go beyond the volume, or where there are too many
@@ -66,6 +74,7 @@ pub(crate) fn draw_command<'a>(alloc: Global) -> Result<Command<'a>, AllocError>
         .after_help(ABOUT_PICTURES);
     let command = with_range(alloc, command)?;
     let command = with_lanes(alloc, command)?;
+    let command = with(alloc, command, "page", Flag, PAGE)?;
     let command = with(alloc, command, "why", Flag, WHY)?;
     with(alloc, command, "FILE", Input, HISTORY)
 }
@@ -116,6 +125,15 @@ pub(crate) fn is_one_input(beside: Option<&str>, file: &str) -> bool
     }
 }
 
+// Whether options name a part of a history, or what a picture shows besides.
+fn names_part(range: StepRange, blocks: bool, area: Option<SlotArea>, trace: Option<&str>) -> bool
+    ensures value { result ≡ names_part range.from range.to blocks area trace.entry }
+    ensures none { result ≡ false → (range.from ≡ None) × (range.to ≡ None) × (blocks ≡ false) × (area ≡ None)
+        × (trace.entry ≡ None) }
+{
+    range.from.is_some() || range.to.is_some() || blocks || area.is_some() || trace.is_some()
+}
+
 pub(crate) fn draw_asked<'a>(
     alloc: Global,
     matches: &ArgMatches<'a>,
@@ -131,13 +149,21 @@ pub(crate) fn draw_asked<'a>(
     if is_one_input(trace, file) {
         return Err(text_of(alloc, "error: TRACE and FILE are both standard input"));
     }
-    Ok(Asked::Draw {
-        from: range.from,
-        to: range.to,
-        blocks: flag_asked(matches, "blocks"),
-        area,
-        trace,
-        why: flag_asked(matches, "why"),
-        file,
-    })
+    let blocks = flag_asked(matches, "blocks");
+    let why = flag_asked(matches, "why");
+    if !flag_asked(matches, "page") {
+        return Ok(Asked::Draw {
+            from: range.from,
+            to: range.to,
+            blocks,
+            area,
+            trace,
+            why,
+            file,
+        });
+    }
+    if names_part(range, blocks, area, trace) {
+        return Err(text_of(alloc, PAGE_IS_WHOLE));
+    }
+    Ok(Asked::Page { why, file })
 }

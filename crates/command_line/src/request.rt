@@ -110,6 +110,11 @@ pub enum Asked<'a> {
         why: bool,
         file: &'a str,
     },
+    /// To write the history in this file as a web page, in which a script shows it.
+    Page {
+        why: bool,
+        file: &'a str,
+    },
     /// To print a script of so many lines, which this seed makes; by these numbers of a configuration and of this kind,
     /// where they are named.
     Random {
