@@ -79,8 +79,8 @@ fn where_the_library_has_no_memory_what_it_took_is_answered_once_it_has() {
     let target = start(Options { trace: Some(trace.clone()), ..options() });
     let mut host = Host::connect(&Dial { slots: 64, ..dial(&target) }, 1).unwrap();
     let queue = &mut host.queues[0];
-    vandrexu::heap_limit(vandrexu::heap_used() + (192 << 10));
-    // a Read needs more memory once it was taken, a Write before
+    // (less than the data of one Write, and enough for the entries of all Reads, whose data is due once they were taken)
+    vandrexu::heap_limit(vandrexu::heap_used() + 6000);
     let (write, data) = (Command::blocks(opcode::WRITE, 0, 16), blocks(1, 16));
     for _ in 0..8 {
         queue.send(Command::blocks(opcode::READ, 0, 256), &[], 256 * BLOCK).unwrap();
@@ -93,7 +93,7 @@ fn where_the_library_has_no_memory_what_it_took_is_answered_once_it_has() {
     let answers: Vec<_> = (0..38).map(|_| queue.receive().unwrap()).collect();
     let of = |due| answers.iter().filter(|it| code(it) == due && !it.status().is_final()).count();
     assert_eq!(of(DONE) + of((0, 6)), 38);
-    assert!(of((0, 6)) > 0, "nothing was refused");
+    assert!(of((0, 6)) >= 30 && of(DONE) > 0, "{} were refused", of((0, 6)));
     assert_eq!(code(&queue.call(write, &data, 0).unwrap()), DONE);
     drop(host);
     drop(target);

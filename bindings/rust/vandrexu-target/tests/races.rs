@@ -126,7 +126,10 @@ fn pairs_of_one_host_take_effect_between_the_steps_of_anothers_units() {
     let [mut writer, mut locker] =
         ["nqn.writer", "nqn.locker"].map(|it| Host::connect(&dial(&target).named(it), 1).unwrap());
     let (data, free) = (blocks(9, 16), blocks(0, 1));
-    for _ in 0..20 {
+    let (mut within, mut between, mut rounds) = (0, 0, 0);
+    // (until the two were under way at once, on a machine of any speed)
+    while (within == 0 || between == 0) && rounds < 500 {
+        rounds += 1;
         // (two units each)
         let write = |at: u64| (Command::blocks(opcode::WRITE, 64 + 16 * at, 16), &data[..]);
         let pair = |at: u64| {
@@ -140,11 +143,11 @@ fn pairs_of_one_host_take_effect_between_the_steps_of_anothers_units() {
                 assert!(queue.receive().unwrap().is_success());
             }
         }
+        (within, between) = pairs_between(&history);
     }
     drop((writer, locker));
     drop(target);
     is_legal(&history);
-    let (within, between) = pairs_between(&history);
     assert!(within > 0 && between > 0, "{within} within a unit, {between} between two");
 }
 
