@@ -1,6 +1,13 @@
 //! The program, for whoever runs scripts, checks histories or lets hosts race: see `casdisk --help`.
 #![tactic(auto)]
 
+mod page;
+mod page_body;
+mod page_drawing;
+mod page_looking;
+mod page_reading;
+mod page_style;
+
 use casdisk_program::{Terminals, run_program};
 use std::io::IsTerminal;
 use std::process::ExitCode;
@@ -10,5 +17,5 @@ fn main(rt: HostRuntime) -> ExitCode {
         output: rt.stdout().is_terminal(),
         words: rt.stderr().is_terminal(),
     };
-    run_program(&rt, terminals)
+    run_program(&rt, terminals, &crate::page::page_parts())
 }

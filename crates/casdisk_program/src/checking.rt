@@ -115,8 +115,8 @@ pub(crate) fn check_why_file<R: Files + Clock + Input + Print + Eprint + AllocGl
     Ok(explained_status(explained))
 }
 
-// What is said of a history, in words.
-fn explained_text(
+/// What is said of a history, in words.
+pub(crate) fn explained_text(
     alloc: Global,
     explained: Explained,
     culprit: Option<Culprit>,

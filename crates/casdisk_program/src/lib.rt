@@ -19,6 +19,7 @@ mod observing;
 mod of_ticket;
 mod open_units;
 mod output_buffer;
+mod paging;
 mod program;
 mod race_tracing;
 mod racing;

@@ -8,6 +8,7 @@ use crate::going_on::run_from_files;
 use crate::in_words::tell_file;
 use crate::input::opened;
 use crate::observing::{ProofFiles, observe_file};
+use crate::paging::page_file;
 use crate::racing::race_as_asked;
 use crate::randoms::random_file;
 use crate::refute::refute_files;
@@ -39,17 +40,17 @@ pub struct Terminals {
 /// gave none, 2 after a bad line, configuration or command line, 3 after a failed opening, reading or writing, 4 where
 /// a growth was refused or a thread couldn't be started, 5 where a search gave up, 6 where it found nothing. The words
 /// of a fault go to standard error; where that is a terminal, also how far a check or a race is that takes more than a
-/// second.
+/// second. The head of a web page has the parts `page`.
 pub fn run_program<
     R: Threads + Wait + Sync + Files + Clock + Env + Input + Print + Eprint + AllocGlobal,
->(rt: &R, terminals: Terminals) -> ExitCode {
+>(rt: &R, terminals: Terminals, page: &[&str]) -> ExitCode {
     let words: Result<Vec<String>, io::Error> = match env::args(rt) {
         Ok(args) => args.collect(rt.alloc()).map_err(io::Error::from),
         Err(error) => Err(error),
     };
     match words {
         Ok(words) => match asked(rt.alloc(), words.as_slice()) {
-            Ok(what) => finish(rt, what, terminals),
+            Ok(what) => finish(rt, what, terminals, page),
             Err(UsageFault::Text(text)) => end_with(rt, 2, text.as_str()),
             Err(UsageFault::NoMemory) => end_with(rt, 4, "no memory"),
         },
@@ -109,6 +110,7 @@ fn finish<R: Threads + Wait + Sync + Files + Clock + Env + Input + Print + Eprin
     rt: &R,
     what: Asked<'_>,
     terminals: Terminals,
+    page: &[&str],
 ) -> ExitCode {
     let told = terminals.words;
     let outcome = match what {
@@ -225,6 +227,7 @@ fn finish<R: Threads + Wait + Sync + Files + Clock + Env + Input + Print + Eprin
             let lanes = lanes_of(blocks, area);
             Ok(draw_file(rt, from, to, lanes, trace, why, file))
         }
+        Asked::Page { why, file } => page_file(rt, page, why, file),
         Asked::Random {
             seed,
             lines,

@@ -7,7 +7,7 @@ use std::fs;
 
 /// Command lines, without the program's name. Words in capitals name files (`give` makes them, but for `FOUND` and `REFUTING`,
 /// which the program may write); behind `<` stands what standard input has.
-pub const ASKED: [&str; 75] = [
+pub const ASKED: [&str; 77] = [
     "run SCRIPT",
     "run --why SCRIPT",
     "run --flush SCRIPT",
@@ -76,6 +76,8 @@ pub const ASKED: [&str; 75] = [
     "draw --trace SEEN - < HISTORY",
     "draw --trace OTHER HISTORY",
     "draw --trace SEEN WRONG",
+    "draw --page HISTORY",
+    "draw --page --why WRONG",
     "random --seed 7 --lines 30",
     "random --seed 7 --lines 30 --like slots --config NUMBERS",
     "shrink SCRIPT < FAILS",
