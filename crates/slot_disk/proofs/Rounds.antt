@@ -1,5 +1,5 @@
 -- Hosts that have met a server twice: what it had seen between the two they know to be theirs.
-use Rattle.std.proofs.Common.{List, None, Option, Some, [], ap, append_assoc, arith, cond, eqb, length, refl, subst}
+use Rattle.std.proofs.Common.{List, None, Option, Some, [], ap, arith, cond, eqb, length, refl, subst}
 use Rattle.std.proofs.Common.{suc, sym, Bool, false, inl, inr, true, zero, ℕ, ◌+◌, ◌++◌, ◌<◌, ◌∙◌, ◌∷◌, ◌≡◌, ◌≢◌, ◌≤◌}
 use Rattle.std.specs.Prelude.{Err, IfOk, Ok, OnOk, Result, slice_get, slice_set}
 use Rattle.std.proofs.lemmas.List.{length-set}
@@ -10,6 +10,7 @@ use Rattle.nvme_model.specs.Passes.{IsBeginning, SharedPast, places}
 use Rattle.nvme_model.specs.declared.array.Range.{Range}
 use Rattle.nvme_model.specs.declared.config.ConfigNumbers.{ConfigNumbers}
 use Rattle.host_laws.proofs.Beside.{places_grow}
+use Rattle.driver_calls.proofs.Views.{begins_on}
 use Rattle.meet_lock.specs.Passes.{mine, number, seen}
 use Rattle.work_queue.specs.Engines.{EnginePass}
 use Rattle.work_queue.specs.declared.engine.Engine.{Engine}
@@ -19,9 +20,6 @@ use Rattle.slot_host.proofs.Places.{element_of, set_there}
 use Rattle.slot_host.specs.declared.slot_host.SlotHost.{SlotHost}
 use Rattle.slot_disk.specs.Hosts.{AreHosts, HasMet, HaveMet, IsDiskHost, host_pass, host_view, views}
 use Rattle.plain_lemmas.proofs.Options.{some_one}
-
-pub further : (xs ys zs : SharedPast) → IsBeginning xs ys → IsBeginning ys zs → IsBeginning xs zs
-further xs ys zs a b = (b.0 ++ a.0, append_assoc b.0 a.0 xs ∙ (ap (λ l. b.0 ++ l) a.1 ∙ b.1))
 
 pub begins_same : (xs ys : SharedPast) → xs ≡ ys → IsBeginning xs ys
 begins_same xs ys e = ([], e)
@@ -83,7 +81,7 @@ pub one_more : (n : ℕ) (hs js : List (SlotHost SharedPort ghosts)) (s t : Slot
 one_more n hs js s t p q r x here y grows =
     record {
       count = length-set js n t ∙ x.count;
-      grows = further (seen p) (seen q) (seen r) x.grows grows;
+      grows = begins_on (seen p) (seen q) (seen r) x.grows grows;
       met = λ k a b less was now. go k a b less was now;
       rest = λ k above. apart_get js n k t (λ e. omega (arith, e, above)) ∙ x.rest k (omega (arith, above));
     }
@@ -93,7 +91,7 @@ one_more n hs js s t p q r x here y grows =
 
     newest : HasMet s t p r
     newest = record {
-      since = further (seen p) (seen q) (seen (host_pass t)) x.grows y.since;
+      since = begins_on (seen p) (seen q) (seen (host_pass t)) x.grows y.since;
       within = y.within;
       mine_stay = y.mine_stay;
     }
@@ -104,7 +102,7 @@ one_more n hs js s t p q r x here y grows =
         let z = x.met k a b less was now in
         record {
           since = z.since;
-          within = further (seen (host_pass b)) (seen q) (seen r) z.within grows;
+          within = begins_on (seen (host_pass b)) (seen q) (seen r) z.within grows;
           mine_stay = z.mine_stay;
         }
 

@@ -3,7 +3,8 @@ use Rattle.std.proofs.Common.{arith, ◌∙◌}
 use Rattle.meet_lock.specs.Passes.{seen}
 use Rattle.slot_disk.specs.Hosts.{host_pass}
 use Rattle.std.proofs.lemmas.Option.{slice_get_read}
-use Rattle.slot_disk.proofs.Rounds.{further, hosts_with, one_more, views_stay}
+use Rattle.driver_calls.proofs.Views.{begins_on}
+use Rattle.slot_disk.proofs.Rounds.{hosts_with, one_more, views_stay}
 use Rattle.slot_disk.proofs.meeting.meet_once.Goals as goal
 
 pub returns-in_err-meets-clause-hosts : goal.returns-in_err-meets-clause-hosts
@@ -43,6 +44,6 @@ loop-k-preserved c =
           ∙ inv.2,
       one_more c.loop-k.k c.args.hosts.now.items c.loop-k.hosts.items c.index_mut.result.now c.meets.new.host
           c.args.server.now c.loop-k.server c.meets.new.server inv.3 here met
-          (further (seen c.loop-k.server) (seen (host_pass c.meets.new.host)) (seen c.meets.new.server)
+          (begins_on (seen c.loop-k.server) (seen (host_pass c.meets.new.host)) (seen c.meets.new.server)
           met.since met.within),
     )
