@@ -27,9 +27,9 @@ def most_memory(process):
         return 0
 
 
-def timed(words, out):
-    """The processor's seconds and the megabytes of a command whose output goes to a file."""
-    child = subprocess.Popen(words, stdout=out)
+def timed(words, out, given=None):
+    """The processor's seconds and the megabytes of a command whose output goes to a file, and which may be given an input."""
+    child = subprocess.Popen(words, stdin=given, stdout=out)
     kilobytes = ended = 0
     while not ended:
         kilobytes = max(kilobytes, most_memory(child.pid))
