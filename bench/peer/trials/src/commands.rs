@@ -13,7 +13,7 @@ pub const ASKED: [&str; 77] = [
     "run --flush SCRIPT",
     "run --check SCRIPT",
     "run --from HISTORY FURTHER",
-    "run --from HISTORY --why SCRIPT",
+    "run --from HISTORY --flush --why FURTHER",
     "run --from WRONG FURTHER",
     "run --show publish,reap SCRIPT",
     "run --trace SCRIPT",
