@@ -6,8 +6,9 @@
  * by unlike threads at once, each by one at a time.
  *
  * No two hosts of a disk have one number, or submission queues of one completion queue. The second is refused, also
- * where the first was freed. So a disk has at most `cqs` hosts, and no host uses another one's queues. What a call is
- * answered is then proved to be true of the history of the controller. */
+ * where the first was freed. So a disk has at most `cqs` hosts, and no host uses another one's queues. A host that ended
+ * is kept by its disk, and made again by its number. What a call is answered is then proved to be true of the history of
+ * the controller. */
 #ifndef VANDREXU_HOSTS_H
 #define VANDREXU_HOSTS_H
 
@@ -32,10 +33,11 @@ enum vandrexu_host_status {
     VANDREXU_UNFINISHED = 113,  /* what was fetched before isn't finished */
     VANDREXU_NO_HOST = 114,     /* as many hosts were made as the disk was made for */
     VANDREXU_BAD_NUMBER = 115,  /* a host has no number 0 */
-    VANDREXU_IN_CALL = 116,     /* the slot host has a call */
+    VANDREXU_IN_CALL = 116,     /* the slot host has a call, or a host that is to end */
     VANDREXU_NO_CALL = 117,     /* the slot host has no call, or no call of the host has this number */
     VANDREXU_USED_NUMBER = 124, /* a host of the disk had the number before, also one that was freed */
-    VANDREXU_USED_QUEUE = 125   /* one had the completion queue of this submission queue before */
+    VANDREXU_USED_QUEUE = 125,  /* one had the completion queue of this submission queue before */
+    VANDREXU_OTHER_HOST = 130   /* no host of this number, made of the disk, lives; or none ended */
 };
 
 typedef struct vandrexu_disk {
@@ -104,6 +106,16 @@ uint32_t vandrexu_host_new(vandrexu_disk *disk, uint32_t number, uint16_t queue,
  * is done to one that owns nothing. */
 void vandrexu_host_free(vandrexu_host *host);
 
+/* Ends a host, and leaves its handle zeros: the disk keeps its number, its submission queue and the CIDs of calls that
+ * were given up. VANDREXU_IN_CALL where a call wasn't; VANDREXU_OTHER_HOST where no host of its number, made of this
+ * disk, lives. */
+uint32_t vandrexu_host_end(vandrexu_disk *disk, vandrexu_host *host);
+
+/* 0, and the handle owns the host of this number that ended, on its submission queue, as it was. Else the first that holds
+ * of VANDREXU_IN_USE, VANDREXU_NO_HANDLE and VANDREXU_OTHER_HOST, where none ended; or 11. It takes none of the hosts that
+ * are left, so a host may end and be made again for ever. */
+uint32_t vandrexu_host_again(vandrexu_disk *disk, uint32_t number, vandrexu_host *host);
+
 /* Each begins a call: 0, its entries are published, and *call is its number, by which it is polled. 46 where a growth is
  * refused for one call more, else the first that holds of 41, 42 and 47, else 43, 45 or 46, and then nothing was published.
  * A host has up to 64 commands in flight, of which a pair is two. Data is 512 bytes a block, and is copied. Slots are read
@@ -143,8 +155,8 @@ typedef struct vandrexu_reply {
 uint32_t vandrexu_host_poll(vandrexu_host *host, uint32_t call, vandrexu_reply *reply);
 
 /* Gives up a call, whose number is free then: what it asked for is done or not, and nobody is told. Its CIDs stay in use
- * until its completions came, and polls, of whichever number, have reaped them. A host that restarts gives up all its
- * calls, and so may do that for ever. VANDREXU_NO_CALL; 11, and the call goes on. */
+ * until its completions came, and polls, of whichever number, have reaped them. VANDREXU_NO_CALL; 11, and the call goes
+ * on. */
 uint32_t vandrexu_host_give_up(vandrexu_host *host, uint32_t call);
 
 /* How many calls the host waits for: those that have a number, and those that were given up and keep their CIDs. */

@@ -98,6 +98,7 @@ class Status(IntEnum):
     NOT_REFUTED = 127
     SLOTS_MISUSED = 128
     FORGOTTEN = 129
+    OTHER_HOST = 130
 
 
 WORDS: dict[Status, str] = {
@@ -159,6 +160,7 @@ WORDS: dict[Status, str] = {
     Status.BAD_AREA: "there would be no slot, or one behind block 65,535",
     Status.USED_NUMBER: "a host of the disk had the number before",
     Status.USED_QUEUE: "a host of the disk had the completion queue before",
+    Status.OTHER_HOST: "no host of this number, made of the disk, lives, or none ended",
     Status.SLOTS_MISUSED: "the history with this line doesn't keep the discipline of slots",
 }
 """What each status says."""
@@ -442,6 +444,8 @@ _ARGUMENTS = {
     "vandrexu_disk_history_count": [_Disk, POINTER(c_uint64)],
     "vandrexu_disk_medium": [_Disk, c_uint64, _Bytes],
     "vandrexu_host_new": [_Disk, c_uint32, c_uint16, _Host],
+    "vandrexu_host_end": [_Disk, _Host],
+    "vandrexu_host_again": [_Disk, c_uint32, _Host],
     "vandrexu_host_free": [_Host],
     "vandrexu_host_read": [_Host, c_uint64, c_uint32, _Number],
     "vandrexu_host_write_zeroes": [_Host, c_uint64, c_uint32, _Number],
@@ -1167,6 +1171,8 @@ class Disk(_Looked):
         vandrexu.SlotRefused: there would be no slot, or one behind block 65,535
         """
         self.slots = slots
+        # (the submission queues of hosts that ended, by their numbers)
+        self._queues: dict[int, int] = {}
         if slots is None:
             super().__init__(config, _fits(hosts, 16))
         else:
@@ -1189,6 +1195,33 @@ class Disk(_Looked):
         """A slot host of this number, with a driver on this submission queue, for the slots of the disk. It isn't made
         where `host` would make none, nor where the disk has no slots."""
         return SlotHost(self, number, queue)
+
+    def end(self, host: Host) -> None:
+        """Ends a host: the disk keeps its number, its submission queue and the CIDs of calls that were given up, until
+        `again` asks for it. Error is raised where a call wasn't given up, and where no host of its number, made of this
+        disk, lives; the host is then as before.
+
+        >>> with Disk(Config(), 1) as disk:
+        ...     host = disk.host(1, 1)
+        ...     host.give_up(host.write(3, b"\\xA1" * 512))
+        ...     disk.end(host)
+        ...     with disk.again(1) as host:
+        ...         host.waiting()
+        Waiting(calls=0, given_up=1)
+        """
+        with self._turn, host._turn:
+            _want(library.vandrexu_host_end(byref(self._raw), byref(host._raw)))
+            self._queues[host.number] = host.queue
+
+    def again(self, number: int) -> Host:
+        """The host of this number that ended, on its submission queue, as it was. It takes none of the hosts that are
+        left, so a host may end and be made again for ever. Error is raised where none ended."""
+        host = Host.__new__(Host)
+        host._new = "vandrexu_host_again"
+        host.config, host.number, host.queue = self.config, number, self._queues.get(number, 0)
+        with self._turn:
+            host._hold(byref(self._raw), _fits(number, 32))
+        return host
 
     def hosts_left(self) -> int:
         """How many hosts, of either kind, can be made of it yet.

@@ -442,6 +442,62 @@ static void restarts(void)
     vandrexu_disk_free(&disk);
 }
 
+/* A host ends over and over, with what it began given up, and is made again by its number. */
+static void ends(void)
+{
+    vandrexu_disk disk = VANDREXU_DISK_NONE, none = VANDREXU_DISK_NONE, other = VANDREXU_DISK_NONE;
+    vandrexu_host host = VANDREXU_HOST_NONE, two = VANDREXU_HOST_NONE;
+    vandrexu_reply reply;
+    uint32_t pair, read;
+    size_t left;
+    uint8_t a[512];
+    fill(a, 0xA1);
+    WANT(vandrexu_disk_new(&config, 2, &disk) == VANDREXU_DONE && vandrexu_disk_new(&config, 1, &other) == VANDREXU_DONE);
+    WANT(vandrexu_host_new(&disk, 7, 2, &host) == VANDREXU_DONE && vandrexu_host_new(&disk, 2, 1, &two) == VANDREXU_DONE);
+    /* what owns nothing, is owned already, and what the other disk didn't make */
+    WANT(vandrexu_host_end(&none, &host) == VANDREXU_NO_HANDLE && vandrexu_host_again(&none, 7, &two) == VANDREXU_IN_USE);
+    WANT(vandrexu_host_again(&disk, 7, &host) == VANDREXU_IN_USE);
+    WANT(vandrexu_host_end(&other, &host) == VANDREXU_OTHER_HOST && host.live == 1);
+    WANT(vandrexu_host_end(&disk, &two) == VANDREXU_DONE && two.live == 0 && two.at == NULL);
+    WANT(vandrexu_host_end(&disk, &two) == VANDREXU_NO_HANDLE);
+    WANT(vandrexu_host_again(&none, 2, &two) == VANDREXU_NO_HANDLE && two.live == 0);
+    for (int life = 0; life < 1000; life++) {
+        WANT(vandrexu_host_again(&disk, 7, &two) == VANDREXU_OTHER_HOST && two.live == 0);
+        WANT(vandrexu_host_compare_and_write(&host, 3, life % 2 ? a : zeros, 512, life % 2 ? zeros : a, 512, &pair)
+             == VANDREXU_DONE);
+        WANT(vandrexu_host_read(&host, 3, 1, &read) == VANDREXU_DONE && vandrexu_host_give_up(&host, pair) == VANDREXU_DONE);
+        WANT(vandrexu_host_end(&disk, &host) == VANDREXU_IN_CALL && host.live == 1);
+        WANT(vandrexu_host_give_up(&host, read) == VANDREXU_DONE);
+        /* it dies before its pair is served, or behind that */
+        if (life % 3 == 0)
+            serve(&disk, 2);
+        WANT(vandrexu_host_end(&disk, &host) == VANDREXU_DONE && host.live == 0 && host.at == NULL);
+        WANT(vandrexu_host_new(&disk, 7, 2, &host) == VANDREXU_USED_NUMBER);
+        if (life % 3 != 0)
+            serve(&disk, 2);
+        serve(&disk, 2);
+        /* it has the queue and the CIDs that it had, and takes none of the passes */
+        WANT(vandrexu_host_again(&disk, 7, &host) == VANDREXU_DONE);
+        WANT(vandrexu_disk_hosts_left(&disk, &left) == VANDREXU_DONE && left == 0);
+        waits(&host, 0, 2);
+        for (int polls = 0; polls < 4; polls++)
+            WANT(vandrexu_host_poll(&host, read, &reply) == VANDREXU_NO_CALL);
+        waits(&host, 0, 0);
+    }
+    /* the last swap wrote zeros; the host that ended first is as it was, too */
+    WANT(vandrexu_host_compare(&host, 3, zeros, 512, &read) == VANDREXU_DONE);
+    serve(&disk, 2);
+    over(&host, read, VANDREXU_REPLY_EQUAL);
+    WANT(vandrexu_host_again(&disk, 2, &two) == VANDREXU_DONE && vandrexu_host_read(&two, 3, 1, &read) == VANDREXU_DONE);
+    serve(&disk, 1);
+    over(&two, read, VANDREXU_REPLY_READ);
+    /* a disk frees those that it keeps */
+    WANT(vandrexu_host_end(&disk, &two) == VANDREXU_DONE);
+    vandrexu_host_free(&host);
+    vandrexu_disk_free(&disk);
+    vandrexu_disk_free(&other);
+}
+
 /* No handle is left behind. */
 static void many(void)
 {
@@ -538,6 +594,7 @@ int main(void)
     flights();
     gives_up();
     restarts();
+    ends();
     many();
     threads();
     puts("hosts: as they should be");
@@ -586,6 +643,10 @@ static void run_refused(long at)
     /* a call whose giving up is refused memory goes on */
     TRY(vandrexu_host_read(&one, 3, 1, &call));
     TRY(vandrexu_host_give_up(&one, call));
+    WANT(vandrexu_host_waiting(&one, &calls, &given_up) == VANDREXU_DONE && calls == 0 && given_up == 1);
+    /* a host that is refused memory can be made again later; to end one takes none */
+    WANT(vandrexu_host_end(&disk, &one) == VANDREXU_DONE);
+    TRY(vandrexu_host_again(&disk, 1, &one));
     WANT(vandrexu_host_waiting(&one, &calls, &given_up) == VANDREXU_DONE && calls == 0 && given_up == 1);
     vandrexu_disk_free(&disk);
     vandrexu_host_free(&one);

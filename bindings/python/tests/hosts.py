@@ -122,6 +122,31 @@ class Hosts(unittest.TestCase):
         with Disk(TWO, 2) as disk, disk.host(1, 2), disk.host(2, 1) as host:
             self.assertEqual((host.number, host.queue, disk.slots), (2, 1, None))
 
+    def test_a_host_that_ends_and_is_made_again(self):
+        with Disk(TWO, 1) as disk, Disk(TWO, 1) as other, other.host(2, 2) as stranger:
+            host = disk.host(7, 2)
+            self.refused(Status.OTHER_HOST, disk.again, 7)
+            self.refused(Status.OTHER_HOST, disk.end, stranger)
+            for life in range(100):
+                call = host.write(3, bytes([life]) * 512)
+                self.assertIs(type(self.refused(Status.IN_CALL, disk.end, host)), vandrexu.Error)
+                host.give_up(call)
+                disk.end(host)
+                self.refused(Status.NO_HANDLE, host.read, 3)
+                self.refused(Status.NO_HANDLE, disk.end, host)
+                self.refused(Status.USED_NUMBER, disk.host, 7, 1)
+                disk.serve(2)
+                host = disk.again(7)
+                self.assertEqual((host.number, host.queue, disk.hosts_left()), (7, 2, 0))
+                self.refused(Status.OTHER_HOST, disk.again, 7)
+                self.assertEqual(host.waiting(), vandrexu.Waiting(0, 1))
+                self.refused(Status.NO_CALL, host.poll, call)
+                self.assertEqual(host.waiting(), vandrexu.Waiting(0, 0))
+            call = host.read(3)
+            disk.serve(2)
+            self.assertEqual(host.poll(call).data, bytes([99]) * 512)
+            self.assertRaises(OverflowError, disk.again, -1)
+
     def writes(self, host, lba, blocks):
         """The calls that write zeros to so many blocks, with arguments."""
         zeros = bytes(512 * blocks)

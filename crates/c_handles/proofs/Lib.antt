@@ -2,6 +2,7 @@ mod Opens
 mod PieceLines
 mod PieceKept
 pub mod HostNumbers
+pub mod Lives
 pub mod Marks
 pub mod Moving
 pub mod Owned

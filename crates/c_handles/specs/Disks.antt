@@ -1,6 +1,6 @@
 -- What contracts say of a disk.
 use Rattle.std.specs.Arc.{arc_value}
-use Rattle.std.specs.Prelude.{All, Err, List, None, Ok, Option, Result, Some, [], drop, replicate, reverse, suc, true}
+use Rattle.std.specs.Prelude.{All, Err, List, None, Ok, Option, Result, Some, [], replicate, suc, true}
 use Rattle.std.specs.Prelude.{IfErr, IfOk, vec_len, zero, ℕ, ◌≡◌, ◌⊎◌}
 use Rattle.c_handles.specs.Owned.{mark}
 use Rattle.nvme_model.specs.Config.{config_fault, config_fault_number}
@@ -57,6 +57,7 @@ pub record IsNewDisk (c : ConfigNumbers) (hosts : ℕ) (slots : Range) (d : Disk
   pub passes : All (IsFreshPass (disk_engine d) c) d.passes.items
   pub count : vec_len d.passes ≡ hosts
   pub none : d.numbers ≡ replicate c.cqs 0
+  pub none_ended : d.ended.items ≡ replicate c.cqs None
   pub idle : d.work ≡ None
   pub opening : opening_of (disk_engine d) ≡ []
 
@@ -74,6 +75,7 @@ pub record IsSameDisk (d e : Disk) : Type 0 where
   pub slots : e.slots ≡ d.slots
   pub passes : e.passes ≡ d.passes
   pub numbers : e.numbers ≡ d.numbers
+  pub ended : e.ended ≡ d.ended
   pub server : IsSame d.server e.server
 
 -- No step was made. The server has seen the whole history so far, which is legal and goes on from what it had seen; or

@@ -2,6 +2,8 @@ pub mod Configurations
 pub mod Pieces
 pub mod Answers
 pub mod Disks
+pub mod Ended
+pub mod EndedStates
 pub mod Handles
 pub mod HostNumbers
 pub mod Making

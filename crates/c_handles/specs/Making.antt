@@ -55,6 +55,7 @@ pub record HasGiven (d e : Disk) : Type 0 where
   pub slots : e.slots ≡ d.slots
   pub engine : e.engine ≡ d.engine
   pub server : e.server ≡ d.server
+  pub ended : e.ended ≡ d.ended
   pub work : e.work ≡ d.work
 
 module _ {g : Ghosts SharedPort} where

@@ -6,6 +6,7 @@ ghost use Rattle.std.specs.Prelude.{[], ◌+◌, ◌≡◌, ◌≤◌, All, IfOk
 ghost use Rattle.work_queue.specs.Engines.{IsFreshPass, IsPassOfEngine, IsWorkOf, fetch_declined, opening_of};
 ghost use Rattle.c_handles.specs.Answers.{declined_number, end_number};
 
+use crate::ended::{EndedHost, none_ended};
 use crate::host_numbers::HostNumbers;
 use crate::numbers::{NOTHING_READY, UNFINISHED};
 use history::Config;
@@ -28,6 +29,8 @@ pub struct Disk {
     pub(crate) passes: Vec<Pass<Core>>,
     // Of the hosts that were made.
     pub(crate) numbers: HostNumbers,
+    // Those that ended, by completion queue, too.
+    pub(crate) ended: Vec<Option<EndedHost>>,
     // What was fetched and isn't finished.
     pub(crate) work: Option<Work>,
     ghost configured: { server.seat.me.0.config ≡ config },
@@ -35,6 +38,7 @@ pub struct Disk {
     ghost spares: { All (IsFreshPass (arc_value engine) config) passes.items },
     ghost inside: { slots.slba + slots.blocks ≤ 65536 },
     ghost queues: { length numbers ≡ config.cqs },
+    ghost endings: { vec_len ended ≡ config.cqs },
     ghost working: { ForSome work (IsWorkOf (arc_value engine)) },
 }
 
@@ -102,6 +106,7 @@ impl Disk {
         ensures { IfOk result (IsNewDisk config hosts slots) }
     {
         let numbers = HostNumbers::none(alloc, config.numbers().cqs)?;
+        let ended = none_ended(alloc, config.numbers().cqs)?;
         let (engine, server, passes) = engine_of(alloc, config, hosts)?;
         Ok(Disk {
             config,
@@ -110,6 +115,7 @@ impl Disk {
             server,
             passes,
             numbers,
+            ended,
             work: None,
         })
     }

@@ -1,7 +1,8 @@
 //! Which hosts were made of a disk.
 
 ghost use Rattle.std.specs.Prelude.{List, length, replicate, set, ℕ, ◌-◌, ◌≡◌, ◌≤◌, false};
-ghost use Rattle.std.specs.Prelude.{IfOk};
+ghost use Rattle.std.specs.List.{position};
+ghost use Rattle.std.specs.Prelude.{◌<◌, ◌==◌, IfOk, IfSome};
 ghost use Rattle.c_handles.specs.HostNumbers.{AreApart, has_host, has_number};
 
 use std::alloc::{AllocError as NoMemory, Global};
@@ -50,6 +51,14 @@ impl HostNumbers {
         ensures { result ≡ has_number self.now number }
     {
         self.numbers.contains(&number)
+    }
+
+    /// Where this number stands, from 0.
+    pub(crate) fn place(&self, number: u32) -> Option<usize>
+        ensures value { result ≡ position (λ m. m == number) self.now }
+        ensures bound { IfSome result (λ i. i < length self.now) }
+    {
+        self.numbers.iter().position(|it| *it == number)
     }
 
     /// Whether a host was made on this completion queue.

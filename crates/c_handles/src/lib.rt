@@ -5,6 +5,7 @@
 mod configuration;
 mod disk;
 mod disk_handle;
+mod ended;
 mod host_numbers;
 mod looking;
 mod making;
@@ -16,6 +17,7 @@ mod pieces;
 pub use crate::configuration::{GivenConfig, config_of};
 pub use crate::disk::Disk;
 pub use crate::disk_handle::DiskHandle;
+pub use crate::ended::{EndedHost, keep_ended, place_to_end, take_ended};
 pub use crate::making::{give_driver, note_host, take_back};
 pub use crate::owner::Owner;
 pub use crate::pieces::{Piece, piece_told};

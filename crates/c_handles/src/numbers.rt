@@ -20,8 +20,12 @@ pub const NO_HOST: u32 = 114;
 
 pub const BAD_NUMBER: u32 = 115;
 
+pub const IN_CALL: u32 = 116;
+
 pub const USED_NUMBER: u32 = 124;
 
 pub const USED_QUEUE: u32 = 125;
 
 pub const FORGOTTEN: u32 = 129;
+
+pub const OTHER_HOST: u32 = 130;

@@ -1,4 +1,5 @@
 pub mod Marks
+mod Again
 mod Batches
 mod LinesLooked
 mod PieceGiven

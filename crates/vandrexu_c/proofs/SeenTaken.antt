@@ -1,5 +1,5 @@
 -- A tracer takes one more entry.
-use Rattle.std.proofs.Common.{List, None, Option, Some, refl, ℕ, ◌∷◌, ◌≡◌}
+use Rattle.std.proofs.Common.{List, None, Some, refl, ℕ, ◌∷◌, ◌≡◌}
 use Rattle.nvme_model.specs.Config.{config_fault}
 use Rattle.nvme_model.specs.History.{Past}
 use Rattle.nvme_model.specs.Legal.{IsLegal}
@@ -11,7 +11,7 @@ use Rattle.trace.specs.declared.seen.Seen.{Seen}
 use Rattle.witness_check.specs.Seeing.{AreWaitingPayloads, seen_of}
 use Rattle.witness_check.specs.declared.sight.Sight.{Sight}
 use Rattle.vandrexu_c.proofs.SlotsFollowed.{legal_before}
-use Rattle.vandrexu_c.specs.Tracers.{FollowsTrace, TakesEntry, TracerRun, published_or, reaped_of}
+use Rattle.vandrexu_c.specs.Tracers.{TakesEntry, TracerRun, published_or, reaped_of}
 
 of_none : (s : Sight) → seen_of s ≡ None → reaped_of s ≡ None
 of_none Sight.Hidden h = refl

@@ -12,6 +12,7 @@ pub mod HostStates
 pub mod Calls
 pub mod Hosts
 pub mod HostMaking
+pub mod HostEnding
 pub mod HostReplies
 pub mod RemoteStates
 pub mod Remotes

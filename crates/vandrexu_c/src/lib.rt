@@ -16,6 +16,7 @@ mod disk_slots;
 mod held;
 mod host;
 mod host_calls;
+mod host_ending;
 mod host_handle;
 mod host_making;
 mod host_reply;

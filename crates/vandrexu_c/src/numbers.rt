@@ -6,8 +6,6 @@ pub(crate) const BAD_LINE: u32 = 107;
 
 pub(crate) const NOT_LEGAL: u32 = 108;
 
-pub(crate) const IN_CALL: u32 = 116;
-
 pub(crate) const NO_CALL: u32 = 117;
 
 pub(crate) const NO_SLOT: u32 = 118;

@@ -5,7 +5,8 @@ ghost use Rattle.vandrexu_c.specs.SlotCalls.{begun_number, told_number, told_rep
 ghost use Rattle.vandrexu_c.specs.SlotReplies.{failed_reply, holder_reply, plain_reply, slot_reply};
 
 use crate::host_reply::failed;
-use crate::numbers::{BAD_NAME, HELD_BY_HOST, IN_CALL, NO_CALL, NO_SLOT, NOT_HELD};
+use crate::numbers::{BAD_NAME, HELD_BY_HOST, NO_CALL, NO_SLOT, NOT_HELD};
+use c_handles::numbers::IN_CALL;
 use driver_cas::Fault;
 use slot_host::{NotBegun, SlotTold};
 use slot_takeover::Holder;

@@ -70,6 +70,7 @@ pub const VANDREXU_IN_CALL: u32 = 116;
 pub const VANDREXU_NO_CALL: u32 = 117;
 pub const VANDREXU_USED_NUMBER: u32 = 124;
 pub const VANDREXU_USED_QUEUE: u32 = 125;
+pub const VANDREXU_OTHER_HOST: u32 = 130;
 
 // ---- What a call about slots answers besides
 
@@ -437,6 +438,8 @@ unsafe extern "C" {
     pub fn vandrexu_disk_medium(disk: *mut vandrexu_disk, lba: u64, out: *mut u8) -> u32;
     pub fn vandrexu_host_new(disk: *mut vandrexu_disk, number: u32, queue: u16, host: *mut vandrexu_host) -> u32;
     pub fn vandrexu_host_free(host: *mut vandrexu_host);
+    pub fn vandrexu_host_end(disk: *mut vandrexu_disk, host: *mut vandrexu_host) -> u32;
+    pub fn vandrexu_host_again(disk: *mut vandrexu_disk, number: u32, host: *mut vandrexu_host) -> u32;
     pub fn vandrexu_host_read(host: *mut vandrexu_host, lba: u64, blocks: u32, call: *mut u32) -> u32;
     pub fn vandrexu_host_write_zeroes(host: *mut vandrexu_host, lba: u64, blocks: u32, call: *mut u32) -> u32;
     pub fn vandrexu_host_write(

@@ -127,6 +127,7 @@ errors! {
     NotRefuted = VANDREXU_NOT_REFUTED, "the trace isn't refuted by this";
     SlotsMisused = VANDREXU_SLOTS_MISUSED, "the history with this line doesn't keep the discipline of slots";
     Forgotten = VANDREXU_FORGOTTEN, "the step at this place was forgotten";
+    OtherHost = VANDREXU_OTHER_HOST, "no host of this number, made of the disk, lives, or none ended";
 }
 
 impl std::error::Error for Error {}

@@ -75,6 +75,51 @@ impl Disk {
         Ok(Host { handle: UnsafeCell::new(handle) })
     }
 
+    /// Ends a host: the disk keeps its number, its submission queue and the CIDs of calls that were given up, until
+    /// [`again`](Disk::again) asks for it. Where it isn't ended, the host is given back with the cause.
+    ///
+    /// ```
+    /// use vandrexu::{Config, Disk, Error, Reply};
+    ///
+    /// let mut disk = Disk::new(&Config::default(), 1)?;
+    /// let mut host = disk.host(1, 1)?;
+    /// for _ in 0..3 {
+    ///     // it dies, and nobody knows whether its command is served
+    ///     let write = host.write(3, &[0xA1; 512])?;
+    ///     host.give_up(write)?;
+    ///     disk.end(host).map_err(|(_, why)| why)?;
+    ///     disk.serve(1)?;
+    ///     host = disk.again(1)?;
+    ///     // (a poll takes what came since)
+    ///     assert_eq!(host.poll(write), Err(Error::NoCall));
+    /// }
+    /// let read = host.read(3, 1)?;
+    /// disk.serve(1)?;
+    /// assert_eq!(host.poll(read)?, Reply::Read(vec![0xA1; 512]));
+    /// # Ok::<(), Error>(())
+    /// ```
+    ///
+    /// # Errors
+    /// [`Error::InCall`] where a call wasn't given up, [`Error::OtherHost`] where no host of its number, made of this disk,
+    /// lives.
+    pub fn end(&mut self, host: Host) -> std::result::Result<(), (Host, Error)> {
+        // SAFETY: nobody else has these handles, which aren't Sync, and they aren't the same.
+        let status = unsafe { sys::vandrexu_host_end(self.handle.get(), host.handle.get()) };
+        told(status).map_err(|why| (host, why))
+    }
+
+    /// The host of this number that ended, on its submission queue, as it was. It takes none of the hosts that are left,
+    /// so a host may end and be made again for ever.
+    ///
+    /// # Errors
+    /// [`Error::OtherHost`] where none ended; [`Error::NoMemory`], and it can be asked for again.
+    pub fn again(&mut self, number: u32) -> Result<Host> {
+        let mut handle = sys::VANDREXU_HOST_NONE;
+        // SAFETY: as in host.
+        told(unsafe { sys::vandrexu_host_again(self.handle.get(), number, &mut handle) })?;
+        Ok(Host { handle: UnsafeCell::new(handle) })
+    }
+
     /// How many hosts, of either kind, can be made of it yet.
     ///
     /// ```

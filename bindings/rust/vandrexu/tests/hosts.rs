@@ -82,6 +82,33 @@ fn a_number_and_a_completion_queue_are_one_hosts() -> Result<(), Error> {
 }
 
 #[test]
+fn a_host_ends_and_is_made_again() -> Result<(), Error> {
+    let (mut disk, mut other) = (Disk::new(&TWO, 1)?, Disk::new(&TWO, 1)?);
+    let stranger = other.host(2, 1)?;
+    let mut host = disk.host(7, 2)?;
+    assert_eq!(disk.again(7).err(), Some(Error::OtherHost));
+    assert_eq!(disk.end(stranger).map_err(|(_, why)| why), Err(Error::OtherHost));
+    for life in 0..100 {
+        let call = host.write(3, &[life; 512])?;
+        let Err((back, why)) = disk.end(host) else { panic!("it has a call") };
+        assert_eq!(why, Error::InCall);
+        host = back;
+        host.give_up(call)?;
+        assert_eq!(disk.end(host).map_err(|(_, why)| why), Ok(()));
+        assert_eq!(disk.host(7, 1).err(), Some(Error::UsedNumber));
+        disk.serve(2)?;
+        host = disk.again(7)?;
+        assert_eq!((disk.hosts_left(), disk.again(7).err()), (0, Some(Error::OtherHost)));
+        assert_eq!(host.waiting().given_up, 1);
+        assert_eq!(host.poll(call), Err(Error::NoCall));
+        assert_eq!(host.waiting().given_up, 0);
+    }
+    let read = host.read(3, 1)?;
+    assert_eq!(over(&mut disk, 2, &mut host, read), Reply::Read(vec![99; 512]));
+    Ok(())
+}
+
+#[test]
 fn each_reply() -> Result<(), Error> {
     let mut disk = Disk::new(&TWO, 2)?;
     let (mut one, mut two) = (disk.host(1, 1)?, disk.host(2, 2)?);

@@ -9,7 +9,15 @@ returns-in-Ok c =
     record {
       unfinished = λ w h. absurd (nothing_kept _ w c.is_some.ensures c.if-is_some.false h);
       fetches = λ h. record {
-        same = record { config = refl; engine = refl; slots = refl; passes = refl; numbers = refl; server = x.same };
+        same = record {
+          config = refl;
+          engine = refl;
+          slots = refl;
+          passes = refl;
+          numbers = refl;
+          ended = refl;
+          server = x.same;
+        };
         knows = x.knows;
         answer = Ok c.in-Ok.work;
         gives = (refl, fetched_by _ _ _ _ _ _ c.deref.ensures c.in-Ok.ensures.accepted);
@@ -23,7 +31,15 @@ returns-in-Err c =
     record {
       unfinished = λ w h. absurd (nothing_kept _ w c.is_some.ensures c.if-is_some.false h);
       fetches = λ h. record {
-        same = record { config = refl; engine = refl; slots = refl; passes = refl; numbers = refl; server = x.same };
+        same = record {
+          config = refl;
+          engine = refl;
+          slots = refl;
+          passes = refl;
+          numbers = refl;
+          ended = refl;
+          server = x.same;
+        };
         knows = x.knows;
         answer = Err (fetch_declined c.in-Err.unmade);
         gives = (h, c.in-Err.ensures.declined);

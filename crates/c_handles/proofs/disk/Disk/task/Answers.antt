@@ -7,7 +7,15 @@ returns-in-Ok c =
     let x = c.attempt_work.ensures in
     record {
       none = λ h. absurd (some_kept c.in-Some.ensures.value h);
-      same = record { config = refl; engine = refl; slots = refl; passes = refl; numbers = refl; server = x.same.0 };
+      same = record {
+        config = refl;
+        engine = refl;
+        slots = refl;
+        passes = refl;
+        numbers = refl;
+        ended = refl;
+        server = x.same.0;
+      };
       makes = λ w h. inr (makes_of _ _ _ w _ (one_kept c.in-Some.ensures.value h) (record {
         task = c.in-Some-next_task.task;
         later = c.attempt_work.new.work;
@@ -30,7 +38,15 @@ returns c =
     let x = c.attempt_work.ensures in
     record {
       none = λ h. absurd (some_kept c.in-Some.ensures.value h);
-      same = record { config = refl; engine = refl; slots = refl; passes = refl; numbers = refl; server = x.same.0 };
+      same = record {
+        config = refl;
+        engine = refl;
+        slots = refl;
+        passes = refl;
+        numbers = refl;
+        ended = refl;
+        server = x.same.0;
+      };
       makes = λ w h. inr (makes_of _ _ _ w _ (one_kept c.in-Some.ensures.value h) (record {
         task = c.in-Some-next_task.task;
         later = c.attempt_work.new.work;
