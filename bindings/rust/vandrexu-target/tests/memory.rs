@@ -79,11 +79,14 @@ fn where_the_library_has_no_memory_what_it_took_is_answered_once_it_has() {
     let target = start(Options { trace: Some(trace.clone()), ..options() });
     let mut host = Host::connect(&Dial { slots: 64, ..dial(&target) }, 1).unwrap();
     let queue = &mut host.queues[0];
-    // (less than the data of one Write, and enough for the entries of all Reads, whose data is due once they were taken)
-    vandrexu::heap_limit(vandrexu::heap_used() + 6000);
+    // (less than the data of one Write, and enough for the entry of a Read, whose data is due once it was taken; how many
+    // of those behind the first come at once, and want more, is the machine's)
+    let used = vandrexu::heap_used();
+    vandrexu::heap_limit(used + 6000);
     let (write, data) = (Command::blocks(opcode::WRITE, 0, 16), blocks(1, 16));
-    for _ in 0..8 {
+    for read in 0..8 {
         queue.send(Command::blocks(opcode::READ, 0, 256), &[], 256 * BLOCK).unwrap();
+        until("the first is taken", || read > 0 || vandrexu::heap_used() > used);
     }
     for _ in 0..30 {
         queue.send(write, &data, 0).unwrap();
