@@ -59,8 +59,8 @@ typedef struct vandrexu_host {
  * made; 11, 21 to 30, VANDREXU_IN_USE. */
 uint32_t vandrexu_disk_new(const vandrexu_config *config, uint16_t hosts, vandrexu_disk *disk);
 
-/* Frees it, and leaves the handle zeros. Hosts that were made of it stay, and the controller with them: but nobody serves
- * it then. Nothing is done to one that owns nothing. */
+/* Frees it with the hosts that ended, and leaves the handle zeros. Other hosts that were made of it stay, and the
+ * controller with them: but nobody serves it then. Nothing is done to one that owns nothing. */
 void vandrexu_disk_free(vandrexu_disk *disk);
 
 /* How many hosts, of either kind, can be made of it yet. */

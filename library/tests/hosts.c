@@ -461,6 +461,9 @@ static void ends(void)
     WANT(vandrexu_host_end(&disk, &two) == VANDREXU_DONE && two.live == 0 && two.at == NULL);
     WANT(vandrexu_host_end(&disk, &two) == VANDREXU_NO_HANDLE);
     WANT(vandrexu_host_again(&none, 2, &two) == VANDREXU_NO_HANDLE && two.live == 0);
+    /* numbers that no host of the disk has */
+    WANT(vandrexu_host_again(&disk, 0, &two) == VANDREXU_OTHER_HOST && two.live == 0);
+    WANT(vandrexu_host_again(&disk, UINT32_MAX, &two) == VANDREXU_OTHER_HOST && two.live == 0);
     for (int life = 0; life < 1000; life++) {
         WANT(vandrexu_host_again(&disk, 7, &two) == VANDREXU_OTHER_HOST && two.live == 0);
         WANT(vandrexu_host_compare_and_write(&host, 3, life % 2 ? a : zeros, 512, life % 2 ? zeros : a, 512, &pair)
