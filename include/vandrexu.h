@@ -65,7 +65,8 @@ enum vandrexu_status {
     VANDREXU_GAVE_UP = 112,       /* the steps of a search were used up */
     VANDREXU_NOT_FOUND = 126,     /* a search found neither a history nor a refutation */
     VANDREXU_NOT_REFUTED = 127,   /* the trace isn't refuted by this */
-    VANDREXU_FORGOTTEN = 129      /* the step at this place of a history was forgotten */
+    VANDREXU_FORGOTTEN = 129,     /* the step at this place of a history was forgotten */
+    VANDREXU_OTHER_ENTRY = 131    /* the step was made, and its line isn't the one that was given */
 };
 
 /* A handle lies in the caller's memory. It is zeros before its `_new` and after its `_free`. Between them the caller
@@ -184,8 +185,11 @@ typedef struct vandrexu_step {
     uint32_t kind;
 } vandrexu_step;
 
-/* The step of the least ticket that can go on; VANDREXU_NOTHING_READY. It isn't made: see vandrexu_settle below. */
+/* The step of the least ticket that can go on; VANDREXU_NOTHING_READY. It isn't made. */
 uint32_t vandrexu_controller_ready(vandrexu_controller *controller, vandrexu_step *step);
+
+/* Makes this step, and the one that is ready then, until none is: 0; or 11, and the steps before are made. */
+uint32_t vandrexu_settle(vandrexu_controller *controller);
 
 /* The block as it lies in the volume: `out` is 512 bytes; VANDREXU_NO_BLOCK. */
 uint32_t vandrexu_controller_medium(vandrexu_controller *controller, uint64_t lba, uint8_t *out);
@@ -206,6 +210,13 @@ uint32_t vandrexu_controller_history(vandrexu_controller *controller, uint64_t f
  * before stays so. The *next of the call above is the place behind the lines that were copied. So who copies lines and
  * then forgets up to there keeps memory flat. */
 uint32_t vandrexu_controller_forget(vandrexu_controller *controller, uint64_t place);
+
+/* Makes the step of the next line of a history once more, an entry's, without its line feed: 0 where the controller added
+ * this line. VANDREXU_OTHER_ENTRY where it made the step and added another line, which is the last of its history now;
+ * the number of the refusal where it refuses the step. So a new controller that is given all lines of a history with its
+ * configuration goes on from there, or the first answer that isn't 0 is at the step that a controller of this kind would
+ * have made otherwise. VANDREXU_BAD_LINE and 11, where no step is made. What a Reap read is had as above. */
+uint32_t vandrexu_controller_replay(vandrexu_controller *controller, const uint8_t *line, size_t length);
 
 /* ---- A checker of histories, which keeps no line ---- */
 
@@ -302,32 +313,6 @@ void vandrexu_heap_limit(size_t bytes);
 
 /* How many bytes all handles together have now, as malloc rounds them up. */
 size_t vandrexu_heap_used(void);
-
-/* Makes what is ready until nothing is: 0, or the first other answer, which is 11 or VANDREXU_NO_HANDLE. A loop here,
- * since whoever steps a controller wants to look between two steps; `vandrexu_controller_ready` is proved to name the
- * next one. */
-static inline uint32_t vandrexu_settle(vandrexu_controller *controller)
-{
-    for (;;) {
-        vandrexu_step step;
-        vandrexu_granted granted;
-        vandrexu_blocked blocked;
-        uint8_t cqe[16];
-        uint32_t status = vandrexu_controller_ready(controller, &step);
-        if (status == VANDREXU_NOTHING_READY)
-            return VANDREXU_DONE;
-        if (status != VANDREXU_DONE)
-            return status;
-        if (step.kind == VANDREXU_STEP_GRANT)
-            status = vandrexu_controller_grant(controller, step.ticket, &granted);
-        else if (step.kind == VANDREXU_STEP_BLOCK)
-            status = vandrexu_controller_block(controller, step.ticket, &blocked);
-        else
-            status = vandrexu_controller_post(controller, step.ticket, cqe);
-        if (status != VANDREXU_DONE)
-            return status;
-    }
-}
 
 VANDREXU_LAYOUT(sizeof(void *) == 8 && sizeof(size_t) == 8);
 VANDREXU_LAYOUT(sizeof(vandrexu_controller) == 16 && offsetof(vandrexu_controller, live) == 8);

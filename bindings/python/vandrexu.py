@@ -99,6 +99,7 @@ class Status(IntEnum):
     SLOTS_MISUSED = 128
     FORGOTTEN = 129
     OTHER_HOST = 130
+    OTHER_ENTRY = 131
 
 
 WORDS: dict[Status, str] = {
@@ -161,6 +162,7 @@ WORDS: dict[Status, str] = {
     Status.USED_NUMBER: "a host of the disk had the number before",
     Status.USED_QUEUE: "a host of the disk had the completion queue before",
     Status.OTHER_HOST: "no host of this number, made of the disk, lives, or none ended",
+    Status.OTHER_ENTRY: "the step's line isn't the one that was given",
     Status.SLOTS_MISUSED: "the history with this line doesn't keep the discipline of slots",
 }
 """What each status says."""
@@ -259,6 +261,10 @@ class NotRefuted(Error):
     """The trace isn't refuted by this: status 127."""
 
 
+class OtherEntry(Error):
+    """A step was made, and stays, whose line isn't the one that was given: status 131."""
+
+
 class Forgotten(Error, LookupError):
     """The step at this place of a history was forgotten: status 129."""
 
@@ -268,6 +274,7 @@ _ERRORS = {
     Status.NOT_LEGAL: NotLegal, Status.NOT_EXPLAINED: NotExplained, Status.BAD_HISTORY: BadHistory,
     Status.OTHER_CONFIG: OtherConfig, Status.GAVE_UP: GaveUp, Status.NOT_FOUND: NotFound,
     Status.NOT_REFUTED: NotRefuted, Status.FORGOTTEN: Forgotten, Status.SLOTS_MISUSED: SlotsMisused,
+    Status.OTHER_ENTRY: OtherEntry,
     Status.BUSY: Busy, Status.CALL_BUSY: Busy,
     Status.CALL_NO_MEMORY: NoMemory, Status.CALL_LENGTH: CallRefused, Status.CALL_TOO_LONG: CallRefused,
     Status.CALL_NO_ROOM: CallRefused, Status.CALL_SLOT_AREA: CallRefused, Status.CALL_NO_SERIAL: CallRefused,
@@ -418,6 +425,8 @@ _ARGUMENTS = {
     "vandrexu_controller_history_count": [_Controller, POINTER(c_uint64)],
     "vandrexu_controller_history": [_Controller, c_uint64, _Bytes, c_size_t, POINTER(c_size_t), POINTER(c_uint64)],
     "vandrexu_controller_forget": [_Controller, c_uint64],
+    "vandrexu_settle": [_Controller],
+    "vandrexu_controller_replay": [_Controller, c_char_p, c_size_t],
     "vandrexu_checker_new": [POINTER(RawConfig), _Checker],
     "vandrexu_checker_free": [_Checker],
     "vandrexu_checker_take_line": [_Checker, c_char_p, c_size_t],
@@ -978,8 +987,7 @@ class Controller(_Looked):
 
     def settle(self) -> None:
         """Makes what is ready until nothing is."""
-        for _ in self.steps():
-            pass
+        self._ask("vandrexu_settle")
 
     def reap(self, queue: int) -> Reaped:
         """Takes the next completion of a completion queue, with what a successful Read read."""
@@ -1022,6 +1030,23 @@ class Controller(_Looked):
         ['fetch 1 1 1 ok']
         """
         self._ask("vandrexu_controller_forget", _fits(place, 64))
+
+    def replay(self, line: str | bytes) -> None:
+        """Makes the step of the next line of a history once more. So a new controller that is given all lines of a
+        history but the first, its configuration's, goes on from there. OtherEntry is raised where the step was made and
+        has another line, which is now the last of the history; Refused, BadLine and NoMemory, where it wasn't made.
+
+        >>> with Controller(Config()) as disk, Controller(Config()) as again:
+        ...     disk.publish(1, [Entry.write(7, 3, b"\\xA1" * 512)])
+        ...     ticket = disk.fetch(1).ticket
+        ...     for line in disk.history(1):
+        ...         again.replay(line)
+        ...     again.settle()
+        ...     again.medium(3) == b"\\xA1" * 512
+        True
+        """
+        line = _bytes_of(line)
+        self._ask("vandrexu_controller_replay", line, len(line))
 
 
 class Checker(_Handle):

@@ -1,6 +1,6 @@
 /* Runs a script over a controller, by the calls of vandrexu.h, and prints what `casdisk run --show reap,refused,medium`
  * prints: run FILE. A line that is none ends it with 2. `run FILE pieces` prints in place of that the history, in pieces of
- * each size, which have to be the same text put together. */
+ * each size, which have to be the same text put together. A new controller that replays its lines has the same history. */
 #include "vandrexu.h"
 
 #include <ctype.h>
@@ -199,14 +199,32 @@ static size_t pieces(vandrexu_controller *disk, size_t size, uint8_t *text)
     }
 }
 
-/* Prints the history, and wants it to be the same in pieces of each size. */
-static void print_history(vandrexu_controller *disk)
+/* Wants a new controller that makes each line but the first once more to have the same history. */
+static void replay(const vandrexu_config *config, const uint8_t *all, size_t length, uint8_t *text)
+{
+    vandrexu_controller again = VANDREXU_CONTROLLER_NONE;
+    size_t line;
+    if (vandrexu_controller_new(config, &again) != VANDREXU_DONE)
+        exit(5);
+    for (size_t from = strcspn((const char *)all, "\n") + 1; from < length; from += line + 1) {
+        line = (size_t)((const uint8_t *)memchr(all + from, '\n', length - from) - (all + from));
+        if (vandrexu_controller_replay(&again, all + from, line) != VANDREXU_DONE)
+            exit(8);
+    }
+    if (pieces(&again, TEXT, text) != length || memcmp(all, text, length) != 0)
+        exit(8);
+    vandrexu_controller_free(&again);
+}
+
+/* Prints the history, and wants it to be the same in pieces of each size, and of a controller that replays it. */
+static void print_history(const vandrexu_config *config, vandrexu_controller *disk)
 {
     static uint8_t all[TEXT], text[TEXT];
     size_t length = pieces(disk, TEXT, all);
     for (size_t size = 0; size <= length + 1; size += length < 2000 || size < 200 || length - size < 3 ? 1 : size / 4)
         if (pieces(disk, size, text) != length || memcmp(all, text, length) != 0)
             exit(6);
+    replay(config, all, length, text);
     fwrite(all, 1, length, stdout);
 }
 
@@ -241,7 +259,7 @@ int main(int argc, char **argv)
             return 4;
     }
     if (quiet)
-        print_history(&disk);
+        print_history(&config, &disk);
     vandrexu_controller_free(&disk);
     free(line);
     fclose(script);

@@ -1,6 +1,6 @@
 //! The command `certify`.
 
-use crate::failure::{Failure, end_fault, failure_of};
+use crate::failure::{Failed, Failure, end_fault, failure_of};
 use crate::input::opened;
 use crate::kept::Kept;
 use crate::objects::print_object;
@@ -15,29 +15,19 @@ use std::process::ExitCode;
 use std::rt::Files;
 use witness_check::TraceVerdict;
 
-/// Why a history wasn't compared with a trace; and the second line about it, where one was asked for.
-#[derive(Drop)]
-pub(crate) struct CertifyFailure {
-    pub(crate) fault: CertifyFault,
-    pub(crate) why: Option<String>,
-}
+/// Why a history wasn't compared with a trace.
+pub(crate) type CertifyFailure = Failed<CertifyFault>;
 
 /// The failure of the trace.
 pub(crate) fn of_trace(failure: Failure) -> CertifyFailure {
-    let Failure { fault, why } = failure;
-    CertifyFailure {
-        fault: CertifyFault::Trace(fault),
-        why,
-    }
+    let fault = CertifyFault::Trace(failure.fault);
+    failure.told_as(fault)
 }
 
 /// The failure of the history.
 pub(crate) fn of_history(failure: Failure) -> CertifyFailure {
-    let Failure { fault, why } = failure;
-    CertifyFailure {
-        fault: CertifyFault::History(fault),
-        why,
-    }
+    let fault = CertifyFault::History(failure.fault);
+    failure.told_as(fault)
 }
 
 // What came of comparing a history with a trace, with the reason where they weren't compared.

@@ -12,9 +12,22 @@ use trace::parse_option;
 
 /// Why a command failed; and the second line about it, where one was asked for and something is known.
 #[derive(Drop)]
-pub(crate) struct Failure {
-    pub(crate) fault: RunFault,
+pub(crate) struct Failed<F> {
+    pub(crate) fault: F,
     pub(crate) why: Option<String>,
+}
+
+/// Why a command of one file failed.
+pub(crate) type Failure = Failed<RunFault>;
+
+impl Failure {
+    /// The same, where it is this fault of a command of two files.
+    pub(crate) fn told_as<F>(self, fault: F) -> Failed<F> {
+        Failed {
+            fault,
+            why: self.why,
+        }
+    }
 }
 
 impl From<RunFault> for Failure {

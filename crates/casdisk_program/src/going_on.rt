@@ -1,6 +1,6 @@
 //! The command `run`, of a script that goes on from a history.
 
-use crate::failure::{Failure, end_fault, failure_of};
+use crate::failure::{Failed, Failure, end_fault, failure_of};
 use crate::input::opened;
 use crate::output_buffer::BUFFER;
 use casdisk_texts::{FromFault, RunFault, run_from};
@@ -10,29 +10,16 @@ use std::io;
 use std::io::{BufWriter, Read, Write};
 use std::rt::Files;
 
-// Why a run didn't go on to the end of its script; and the second line about it, where one was asked for.
-#[derive(Drop)]
-struct FromFailure {
-    fault: FromFault,
-    why: Option<String>,
-}
-
 // The failure of the history.
-fn of_history(failure: Failure) -> FromFailure {
-    let Failure { fault, why } = failure;
-    FromFailure {
-        fault: FromFault::History(fault),
-        why,
-    }
+fn of_history(failure: Failure) -> Failed<FromFault> {
+    let fault = FromFault::History(failure.fault);
+    failure.told_as(fault)
 }
 
 // The failure of the script.
-fn of_script(failure: Failure) -> FromFailure {
-    let Failure { fault, why } = failure;
-    FromFailure {
-        fault: FromFault::Script(fault),
-        why,
-    }
+fn of_script(failure: Failure) -> Failed<FromFault> {
+    let fault = FromFault::Script(failure.fault);
+    failure.told_as(fault)
 }
 
 // Goes on in pieces, the last of which goes out before anything is told.
@@ -60,7 +47,7 @@ fn go_on<R: Files + Input + Print + AllocGlobal>(
     why: bool,
     history_file: &str,
     file: &str,
-) -> Result<(), FromFailure> {
+) -> Result<(), Failed<FromFault>> {
     let alloc = rt.alloc();
     let mut history = opened(rt, history_file, why).map_err(of_history)?;
     let mut input = opened(rt, file, why).map_err(of_script)?;
@@ -85,7 +72,7 @@ fn go_on<R: Files + Input + Print + AllocGlobal>(
             Grammar::Script,
             fault,
         ))),
-        Err(fault) => Err(FromFailure { fault, why: None }),
+        Err(fault) => Err(Failed { fault, why: None }),
     }
 }
 
@@ -101,6 +88,6 @@ pub(crate) fn run_from_files<R: Files + Input + Print + Eprint + AllocGlobal>(
 ) -> u8 {
     match go_on(rt, kinds, flush, why, history, file) {
         Ok(()) => 0,
-        Err(FromFailure { fault, why }) => end_fault(rt, fault, fault.status(), why),
+        Err(Failed { fault, why }) => end_fault(rt, fault, fault.status(), why),
     }
 }

@@ -3,10 +3,9 @@
 use crate::certify::{certify_files, logged_so};
 use crate::checking::{check_file, check_why_file, explain_file};
 use crate::drawing::{draw_file, lanes_of};
-use crate::failure::{Failure, end_failure, end_fault, failure_of};
+use crate::failure::{Failure, end_failure, end_fault};
 use crate::going_on::run_from_files;
 use crate::in_words::tell_file;
-use crate::input::opened;
 use crate::observing::{ProofFiles, observe_file};
 use crate::paging::page_file;
 use crate::racing::race_as_asked;

@@ -1,35 +1,22 @@
 //! The command `refute`.
 
-use crate::failure::{Failure, end_fault, failure_of};
+use crate::failure::{Failed, Failure, end_fault, failure_of};
 use crate::input::opened;
 use file_commands::{Grammar, RefuteFault, refute_object, refute_text};
 use std::io;
 use std::process::ExitCode;
 use std::rt::Files;
 
-// Why a trace wasn't compared with a refutation; and the second line about it, where one was asked for.
-#[derive(Drop)]
-struct RefuteFailure {
-    fault: RefuteFault,
-    why: Option<String>,
-}
-
 // The failure of the trace.
-fn of_trace(failure: Failure) -> RefuteFailure {
-    let Failure { fault, why } = failure;
-    RefuteFailure {
-        fault: RefuteFault::Trace(fault),
-        why,
-    }
+fn of_trace(failure: Failure) -> Failed<RefuteFault> {
+    let fault = RefuteFault::Trace(failure.fault);
+    failure.told_as(fault)
 }
 
 // The failure of the refutation.
-fn of_refutation(failure: Failure) -> RefuteFailure {
-    let Failure { fault, why } = failure;
-    RefuteFailure {
-        fault: RefuteFault::Refutation(fault),
-        why,
-    }
+fn of_refutation(failure: Failure) -> Failed<RefuteFault> {
+    let fault = RefuteFault::Refutation(failure.fault);
+    failure.told_as(fault)
 }
 
 // Compares a refutation with a trace, and says whether the trace is refuted.
@@ -39,7 +26,7 @@ fn refuted<R: Files + Input + Print + AllocGlobal>(
     why: bool,
     trace_file: &str,
     refutation_file: &str,
-) -> Result<bool, RefuteFailure> {
+) -> Result<bool, Failed<RefuteFault>> {
     let mut trace = opened(rt, trace_file, why).map_err(of_trace)?;
     let mut refutation = opened(rt, refutation_file, why)
         .map_err(of_refutation)?
@@ -66,7 +53,7 @@ fn refuted<R: Files + Input + Print + AllocGlobal>(
             Grammar::Slice,
             fault,
         ))),
-        Err(RefuteFault::Output) => Err(RefuteFailure {
+        Err(RefuteFault::Output) => Err(Failed {
             fault: RefuteFault::Output,
             why: None,
         }),
@@ -84,8 +71,6 @@ pub(crate) fn refute_files<R: Files + Input + Print + Eprint + AllocGlobal>(
     match refuted(rt, json, why, trace, refutation) {
         Ok(true) => ExitCode::from(0),
         Ok(false) => ExitCode::from(1),
-        Err(RefuteFailure { fault, why }) => {
-            ExitCode::from(end_fault(rt, fault, fault.status(), why))
-        }
+        Err(Failed { fault, why }) => { ExitCode::from(end_fault(rt, fault, fault.status(), why)) }
     }
 }

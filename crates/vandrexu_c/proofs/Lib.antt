@@ -4,6 +4,7 @@ mod Batches
 mod LinesLooked
 mod PieceGiven
 mod Ready
+mod Replayed
 mod HostSent
 mod RemoteSent
 mod RemoteLooked
@@ -11,3 +12,4 @@ mod Fresh
 pub mod SlotSent
 mod SeenTaken
 mod SlotsFollowed
+mod Settled

@@ -6,6 +6,8 @@ pub mod DiskLooks
 pub mod HistoryLines
 pub mod OwnedStates
 pub mod Steps
+pub mod Replays
+pub mod Settling
 pub mod TextCalls
 pub mod Tracers
 pub mod HostStates

@@ -1,6 +1,5 @@
 -- What a call that asks a controller for a step answers.
-use Rattle.std.specs.Prelude.{Err, List, None, Ok, Option, Result, Some, length, suc, zero, ℕ, ◌≡◌}
-use Rattle.nvme_model.specs.Steps.{ready}
+use Rattle.std.specs.Prelude.{Err, List, None, Ok, Option, Result, Some, length, ℕ, ◌≡◌}
 use Rattle.nvme_model.specs.declared.step.Step.{Step}
 use Rattle.controller_interface.specs.State.{Serves}
 use Rattle.controller_interface.specs.declared.answer.Answer.{Answer}
@@ -78,11 +77,3 @@ TellsReap old step cqe count number new =
 abbrev pub TellsReady : Option Step → ℕ → NextStep → Type 0
 TellsReady None number told = number ≡ 105
 TellsReady (Some step) number told = (number ≡ 0) × (next_step_of step ≡ Some told)
-
--- so many steps, each the one that is ready, lead from one controller to the other
-abbrev pub Settles : ℕ → OwnedState → OwnedState → Type 0
-Settles zero old new = new ≡ old
-Settles (suc n) old new =
-    (mid : OwnedState) × Settles n old mid × (step : Step) × (a : Answer)
-    × (ready mid.core.config mid.core.past ≡ Some step) × Serves mid.core step (Ok a) new.core
-    × (new.payload ≡ mid.payload)

@@ -72,7 +72,8 @@ fn op_in(op: Op) -> u32
     }
 }
 
-fn mode_in(mode: Mode) -> u32
+/// The number of how a unit holds its blocks.
+pub(crate) fn mode_in(mode: Mode) -> u32
     ensures { result ≡ mode_number mode }
 {
     match mode {
@@ -81,7 +82,8 @@ fn mode_in(mode: Mode) -> u32
     }
 }
 
-fn found_in(found: Found) -> u32
+/// The number of what a Block found.
+pub(crate) fn found_in(found: Found) -> u32
     ensures { result ≡ found_number found }
 {
     match found {

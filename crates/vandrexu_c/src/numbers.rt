@@ -17,3 +17,5 @@ pub(crate) const HELD_BY_HOST: u32 = 120;
 pub(crate) const BAD_NAME: u32 = 122;
 
 pub(crate) const BAD_AREA: u32 = 123;
+
+pub(crate) const OTHER_ENTRY: u32 = 131;

@@ -52,6 +52,7 @@ pub const VANDREXU_GAVE_UP: u32 = 112;
 pub const VANDREXU_NOT_FOUND: u32 = 126;
 pub const VANDREXU_NOT_REFUTED: u32 = 127;
 pub const VANDREXU_FORGOTTEN: u32 = 129;
+pub const VANDREXU_OTHER_ENTRY: u32 = 131;
 
 // ---- What a call about a disk or a host answers besides
 
@@ -353,6 +354,8 @@ unsafe extern "C" {
         next: *mut u64,
     ) -> u32;
     pub fn vandrexu_controller_forget(controller: *mut vandrexu_controller, place: u64) -> u32;
+    pub fn vandrexu_settle(controller: *mut vandrexu_controller) -> u32;
+    pub fn vandrexu_controller_replay(controller: *mut vandrexu_controller, line: *const u8, length: usize) -> u32;
     pub fn vandrexu_checker_new(config: *const vandrexu_config, checker: *mut vandrexu_checker) -> u32;
     pub fn vandrexu_checker_free(checker: *mut vandrexu_checker);
     pub fn vandrexu_checker_take_line(checker: *mut vandrexu_checker, line: *const u8, length: usize) -> u32;

@@ -202,7 +202,8 @@ impl Controller {
     /// # Errors
     /// [`Error::NoMemory`]: the steps before are made.
     pub fn settle(&mut self) -> Result<()> {
-        self.steps().try_for_each(|it| it.map(drop))
+        // SAFETY: as `at` says.
+        told(unsafe { sys::vandrexu_settle(self.at()) })
     }
 
     /// Takes the next completion of a completion queue, with what a successful Read read.
@@ -315,6 +316,35 @@ impl Controller {
         // SAFETY: as `at` says.
         let status = unsafe { sys::vandrexu_controller_forget(self.at(), place) };
         assert_eq!(told(status), Ok(()), "a controller has its handle until it is dropped");
+    }
+
+    /// Makes the step of the next line of a history once more. So a new controller that is given all lines of a history
+    /// but the first, its configuration's, goes on from there; or it says at which step a controller of this kind would
+    /// have done something else.
+    ///
+    /// ```
+    /// use vandrexu::{Config, Controller, Entry, Error};
+    ///
+    /// let mut disk = Controller::new(&Config::default())?;
+    /// disk.publish(1, &[Entry::write(7, 3, &[0xA1; 512])])?;
+    /// disk.fetch(1)?;
+    /// let mut again = Controller::new(&Config::default())?;
+    /// for line in disk.history(1) {
+    ///     again.replay(line?)?;
+    /// }
+    /// again.settle()?;
+    /// assert_eq!(again.medium(3), Ok([0xA1; 512]));
+    /// assert_eq!(again.replay("reap 1 00000000000000000100010007000000"), Err(Error::OtherEntry));
+    /// # Ok::<(), Error>(())
+    /// ```
+    ///
+    /// # Errors
+    /// [`Error::OtherEntry`] where the step was made and has another line, which is now the last of the history; those of
+    /// the step, [`Error::BadLine`] and [`Error::NoMemory`], where it wasn't made.
+    pub fn replay(&mut self, line: impl AsRef<[u8]>) -> Result<()> {
+        let line = line.as_ref();
+        // SAFETY: as `at` says; a slice has an address that isn't null.
+        told(unsafe { sys::vandrexu_controller_replay(self.at(), line.as_ptr(), line.len()) })
     }
 
     /// The lines of the history from a place on, without their line feeds. Place 0 is the configuration's line, and place

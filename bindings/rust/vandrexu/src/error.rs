@@ -128,6 +128,8 @@ errors! {
     SlotsMisused = VANDREXU_SLOTS_MISUSED, "the history with this line doesn't keep the discipline of slots";
     Forgotten = VANDREXU_FORGOTTEN, "the step at this place was forgotten";
     OtherHost = VANDREXU_OTHER_HOST, "no host of this number, made of the disk, lives, or none ended";
+    /// (The step was made, and stays.)
+    OtherEntry = VANDREXU_OTHER_ENTRY, "the step's line isn't the one that was given";
 }
 
 impl std::error::Error for Error {}
