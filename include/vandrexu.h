@@ -215,7 +215,7 @@ uint32_t vandrexu_controller_forget(vandrexu_controller *controller, uint64_t pl
  * this line. VANDREXU_OTHER_ENTRY where it made the step and added another line, which is the last of its history now;
  * the number of the refusal where it refuses the step. So a new controller that is given all lines of a history with its
  * configuration goes on from there, or the first answer that isn't 0 is at the step that a controller of this kind would
- * have made otherwise. VANDREXU_BAD_LINE and 11, where no step is made. What a Reap read is had as above. */
+ * have made otherwise. What such a controller made is never answered so. VANDREXU_BAD_LINE and 11, where no step is made. What a Reap read is had as above. */
 uint32_t vandrexu_controller_replay(vandrexu_controller *controller, const uint8_t *line, size_t length);
 
 /* ---- A checker of histories, which keeps no line ---- */

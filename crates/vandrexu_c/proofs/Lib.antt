@@ -2,6 +2,7 @@ pub mod Marks
 mod Again
 mod Batches
 mod LinesLooked
+mod OwnEntries
 mod PieceGiven
 mod Ready
 mod Replayed

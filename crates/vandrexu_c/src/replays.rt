@@ -1,9 +1,11 @@
 //! The steps of a history, made once more by a controller.
 
-ghost use Rattle.std.specs.Prelude.{◌∷◌, ◌≡◌, ◌≤◌, None, Some, length};
+ghost use Rattle.std.specs.Prelude.{◌∷◌, ◌≡◌, ◌≤◌, ◌⊎◌, None, Some, length};
 ghost use Rattle.c_handles.specs.Owned.{Keeps};
 ghost use Rattle.nvme_model.specs.History.{Past};
+ghost use Rattle.nvme_model.specs.Kept.{ControllerInvariant};
 ghost use Rattle.nvme_model.specs.declared.entry.Entry.{Entry as TheEntry};
+ghost use Rattle.history.specs.Lines.{entry_in};
 ghost use Rattle.vandrexu_c.specs.OwnedStates.{OwnedState};
 ghost use Rattle.vandrexu_c.specs.Replays.{AreOne, GivesDone, Replays, ReplaysEntry};
 
@@ -102,6 +104,15 @@ fn replayed(alloc: Global, owned: &mut OwnedController, line: &[u8]) -> u32
     }
 }
 
+// The same. What a controller of this kind has added behind this history it adds again.
+fn line_replayed(alloc: Global, owned: &mut OwnedController, line: &[u8]) -> u32
+    ensures replays { Replays owned.old line.now result owned.new }
+    ensures own { (e : TheEntry) → entry_in line.now ≡ Some e →
+        ControllerInvariant owned.old.core.config (e ∷ owned.old.core.past) → (result ≡ 0) ⊎ (result ≡ 11) }
+{
+    replayed(alloc, owned, line)
+}
+
 /// Makes the step of the next line of a history once more: 0 where the controller has added that line; or 131 where it
 /// made the step, and added another line, which stays; or the number of the refusal; or 107 for what is no line of a
 /// history, and 11 where memory is refused, and no step is made; or 101 where the handle owns nothing. What a Reap read
@@ -115,6 +126,10 @@ pub extern "C" fn vandrexu_controller_replay(
     ensures no_handle { controller.old.held.core ≡ None → (result ≡ 101) × (controller.new.held.core ≡ None) }
     ensures replays { (m : OwnedState) → controller.old.held.core ≡ Some m →
         Keeps controller.new.held.core (Replays m line.now result) }
+
+    // A line that a controller of this kind made behind this history is made again, unless memory is refused.
+    ensures own { (m : OwnedState) (e : TheEntry) → controller.old.held.core ≡ Some m → entry_in line.now ≡ Some e →
+        ControllerInvariant m.core.config (e ∷ m.core.past) → (result ≡ 0) ⊎ (result ≡ 11) }
 {
-    lend!(alloc, controller, mut owned => replayed(alloc, owned.as_mut(), line))
+    lend!(alloc, controller, mut owned => line_replayed(alloc, owned.as_mut(), line))
 }
