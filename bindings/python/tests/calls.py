@@ -11,8 +11,8 @@ from ctypes import byref, c_size_t, c_uint8, c_uint64, sizeof
 
 import vandrexu
 from vandrexu import (BadConfig, BadLine, Blocked, Checker, Completion, Config, Controller, Disk, Entry, Found, Granted,
-                      Host, Kind, Mode, NoBlock, NoHandle, NoMemory, NotLegal, Op, Refused, RemoteHost, RemoteSlotHost,
-                      ReplyKind, SlotHost, SlotReplyKind, Status, Step, StepKind, Work, library)
+                      Host, Kind, Mode, NoBlock, NoHandle, NoMemory, NotLegal, Op, OtherEntry, Refused, RemoteHost,
+                      RemoteSlotHost, ReplyKind, SlotHost, SlotReplyKind, Status, Step, StepKind, Work, library)
 
 TOP = os.path.join(os.path.dirname(os.path.abspath(__file__)), "../../..")
 TWO = Config.of_line("config 8 1 1 0 0 2 4 4 8")
@@ -101,6 +101,19 @@ class Calls(unittest.TestCase):
             self.assertEqual(sum(1 for _ in disk.steps()), 3)
             self.assertEqual(disk.reap(1).data, A1)
             self.assertEqual(disk.history_count(), 15)
+
+    def test_lines_are_made_once_more(self):
+        with Controller(TWO) as disk:
+            for line in ("", FLUSH + "\n", "fetch 1 1 1"):
+                self.assertIsInstance(self.refused(Status.BAD_LINE, disk.replay, line), BadLine)
+            self.assertIsInstance(self.refused(Status.NO_ENTRY, disk.replay, "fetch 1 1 1 ok"), Refused)
+            self.assertEqual(disk.history_count(), 0)
+            disk.replay(FLUSH)
+            self.assertIsInstance(self.refused(Status.OTHER_ENTRY, disk.replay, b"fetch 1 2 1 ok"), OtherEntry)
+            self.assertEqual(list(disk.history(2)), ["fetch 1 1 1 ok"])
+            disk.replay("post 1 00000000000000000100010007000100 -")
+            self.assertEqual(disk.reap(1).completion.cid, 7)
+        self.refused(Status.NO_HANDLE, disk.replay, FLUSH)
 
     def test_limits(self):
         with Controller(SMALL) as disk:

@@ -125,6 +125,23 @@ fn lines_are_taken_or_not() -> Result<(), Error> {
 }
 
 #[test]
+fn lines_are_made_once_more_or_not() -> Result<(), Error> {
+    let mut disk = Controller::new(&SMALL)?;
+    for line in ["", "config 8 1 1 0 0 2 4 4 8", "fetch 1 1 1 ok\n", "medium 3 00"] {
+        assert_eq!(disk.replay(line), Err(Error::BadLine), "{line}");
+    }
+    assert_eq!(disk.replay([0xFF, 0x00]), Err(Error::BadLine));
+    assert_eq!(disk.replay("fetch 1 1 1 ok"), Err(Error::NoEntry));
+    assert_eq!(disk.history_count(), 0);
+    disk.replay(format!("publish 1 0000070001{} -", "0".repeat(118)))?;
+    assert_eq!(disk.replay("fetch 1 2 1 ok"), Err(Error::OtherEntry));
+    assert_eq!(disk.history(2).collect::<Result<Vec<_>, _>>()?, ["fetch 1 1 1 ok"]);
+    disk.replay("post 1 00000000000000000100010007000100 -")?;
+    assert_eq!(disk.reap(1)?.completion.cid(), 7);
+    Ok(())
+}
+
+#[test]
 fn a_handle_goes_to_another_thread() {
     let mut disk = Controller::new(&SMALL).expect("memory");
     disk.publish(1, &[Entry::write(1, 0, &[0xC3; 512])]).expect("memory");
